@@ -1,0 +1,63 @@
+-- The stored word: the word of each state of a page, and the state that each word means.
+--     word-of s           the word of the state s, or none where its frame is too large
+--     state-of w          what the word w means
+--     lawful-word w       w is a word that some state has
+--     Sole s w            w is the one lawful word that means s
+use mathlib.Core.Path.{_≡_}
+use mathlib.Core.Bool.{Bool, true, false, cond, _||_}
+use Prim.Native.Nat.{ℕ, _+_, _*_, _/_, _%_, _^_}
+use lib.Dec.{eqb, leb}
+use Rattle.std.specs.declared.option.Option.{Option}
+use Rattle.std.specs.declared.option.Option.the-variants.{None, Some}
+use Rattle.paging.specs.declared.page.Entry.{Entry}
+use Rattle.paging.specs.declared.page.Entry.the-variants.{Absent, Present}
+use Rattle.paging.specs.declared.page.PageState.{PageState}
+use Rattle.paging.specs.declared.page.PageState.the-variants.{Unready, Ready}
+use Rattle.paging.specs.Layout.{frame-bits, accessed-bit, write-bit, kind-bit, absent-kind, present-kind, max-frame}
+
+-- a flag as the number in its bit
+abbrev pub bit : Bool → ℕ
+bit true = 1
+bit false = 0
+
+-- whether bit k of w is set
+abbrev pub bit-set : ℕ → ℕ → Bool
+bit-set w k = eqb (w / 2 ^ k % 2) 1
+
+-- the word of a page that is ready and absent
+abbrev pub absent-word : ℕ
+absent-word = absent-kind * 2 ^ kind-bit
+
+-- the word of a page that is present
+abbrev pub present-word : ℕ → Bool → Bool → ℕ
+present-word frame write accessed =
+    present-kind * 2 ^ kind-bit + bit write * 2 ^ write-bit + bit accessed * 2 ^ accessed-bit + frame
+
+-- whether an entry has a word
+abbrev pub storable : Entry → Bool
+storable Absent = true
+storable (Present frame write accessed) = leb frame max-frame
+
+-- the word of a state
+abbrev pub word-of : PageState → Option ℕ
+word-of Unready = Some 0
+word-of (Ready Absent) = Some absent-word
+word-of (Ready (Present frame write accessed)) = cond (leb frame max-frame) (Some (present-word frame write accessed)) None
+
+-- the entry that a word of the present kind spells
+abbrev pub entry-in : ℕ → Entry
+entry-in w = Present (w % 2 ^ frame-bits) (bit-set w write-bit) (bit-set w accessed-bit)
+
+-- what a word means: what is neither ready and absent nor present counts as unready
+abbrev pub state-of : ℕ → PageState
+state-of w = cond (eqb w absent-word) (Ready Absent) (cond (eqb (w / 2 ^ kind-bit) present-kind) (Ready (entry-in w)) Unready)
+
+-- the words that states have: a word of the first two kinds has all its other bits 0
+abbrev pub lawful-word : ℕ → Bool
+lawful-word w = eqb w 0 || (eqb w absent-word || eqb (w / 2 ^ kind-bit) present-kind)
+
+-- the word means the state, and no second lawful word does
+pub record Sole (s : PageState) (w : ℕ) : Type 0 where
+  pub means : state-of w ≡ s
+  pub lawful : lawful-word w ≡ true
+  pub only : (v : ℕ) → lawful-word v ≡ true → state-of v ≡ s → v ≡ w
