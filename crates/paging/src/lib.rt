@@ -1,8 +1,13 @@
 // Page tables: the entry of a page, the word that stores it, the interface that every table keeps, and the flat table.
 mod page;
+mod table;
+mod window;
 mod word;
 pub use page::Entry;
 pub use page::Fault;
 pub use page::PageState;
+pub use table::PROCESSES;
+pub use table::PageTable;
+pub use word::MAX_FRAME;
 pub use word::decode;
 pub use word::encode;

@@ -18,6 +18,10 @@ const KIND_BIT: u16 = WRITE_BIT + 1;
 const ABSENT: u16 = 1;
 const PRESENT: u16 = 2;
 
+// The words of the two states that map nothing.
+pub(crate) const UNREADY: u16 = 0;
+pub(crate) const READY_ABSENT: u16 = ABSENT << KIND_BIT;
+
 // The greatest frame that an entry can hold.
 pub const MAX_FRAME: u32 = (1 << FRAME_BITS) - 1;
 
@@ -27,8 +31,8 @@ pub fn encode(state: PageState) -> Option<u16>
     ensures sole { λ r. ⌜ found r (λ w. Sole state w) ⌝ }
 {
     match state {
-        PageState::Unready => Some(0),
-        PageState::Ready(Entry::Absent) => Some(ABSENT << KIND_BIT),
+        PageState::Unready => Some(UNREADY),
+        PageState::Ready(Entry::Absent) => Some(READY_ABSENT),
         PageState::Ready(Entry::Present {
             frame,
             write,
@@ -50,7 +54,7 @@ pub fn decode(word: u16) -> PageState
     ensures other { λ r. ⌜ (lawful-word word ≡ false → r ≡ Unready) ⌝ }
 {
     match word >> KIND_BIT {
-        ABSENT if word == ABSENT << KIND_BIT => PageState::Ready(Entry::Absent),
+        ABSENT if word == READY_ABSENT => PageState::Ready(Entry::Absent),
         PRESENT => PageState::Ready(Entry::Present {
             frame: u32::from(word) & MAX_FRAME,
             write: word >> WRITE_BIT & 1 == 1,
