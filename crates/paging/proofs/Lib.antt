@@ -1,2 +1,4 @@
 pub mod Codec
+pub mod Parts
 pub mod Windows
+pub mod FlatWords

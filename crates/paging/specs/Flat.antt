@@ -21,7 +21,7 @@ flat-pages = 1024
 
 -- how many words the table takes
 abbrev pub flat-words : ℕ
-flat-words = flat-pages * processes
+flat-words = processes * flat-pages
 
 -- whether the memory is long enough for the table: in shorter memory nothing is ready, and nothing fits
 abbrev pub whole : List ℕ → Bool
@@ -29,7 +29,7 @@ whole ws = leb flat-words (length ws)
 
 -- where page q of process p has its word: each process has a window, one after the other
 abbrev pub place : ℕ → ℕ → ℕ
-place p q = flat-pages * p + q
+place p q = p * flat-pages + q
 
 abbrev pub flat-state : List ℕ → ℕ → ℕ → PageState
 flat-state ws p q = cond (whole ws && (ltb p processes && ltb q flat-pages)) (state-of (getD ws (place p q) 0)) Unready

@@ -1,4 +1,5 @@
 // Page tables: the entry of a page, the word that stores it, the interface that every table keeps, and the flat table.
+mod flat;
 mod page;
 mod table;
 mod window;
