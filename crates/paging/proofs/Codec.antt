@@ -8,7 +8,8 @@ use lib.Bits.{bitAnd, bitOr, or-shifted-r, and-mask}
 use lib.Dec.{eqb, leb}
 use mir.Val.{boolByte}
 use Rattle.std.proofs.shelf.Ways.{tells}
-use Rattle.std.proofs.shelf.Tests.{or-cases, eqb-true, leb-true}
+use Rattle.std.proofs.shelf.Tests.{cond-true, or-cases, eqb-true, leb-true}
+use Rattle.std.specs.Options.{valueOr}
 use Rattle.std.specs.declared.option.Option.{Option}
 use Rattle.std.specs.declared.option.Option.the-variants.{None, Some}
 use Rattle.paging.specs.declared.page.Entry.{Entry}
@@ -16,7 +17,7 @@ use Rattle.paging.specs.declared.page.Entry.the-variants.{Absent, Present}
 use Rattle.paging.specs.declared.page.PageState.{PageState}
 use Rattle.paging.specs.declared.page.PageState.the-variants.{Unready, Ready}
 use Rattle.paging.specs.Layout.{frame-bits, accessed-bit, write-bit, kind-bit, absent-kind, present-kind, max-frame}
-use Rattle.paging.specs.Word.{bit, bit-set, absent-word, present-word, word-of, entry-in, state-of, lawful-word, Sole}
+use Rattle.paging.specs.Word.{bit, bit-set, absent-word, present-word, word-of, entry-in, state-of, lawful-word, storable, Sole}
 
 -- a flag and the number in its bit
 bit-tells : (b : Bool) → ((b ≡ true) × (bit b ≡ 1)) ⊎ ((b ≡ false) × (bit b ≡ 0))
@@ -33,9 +34,9 @@ pub spelled : (f : ℕ) (w a : Bool) → f ≤ max-frame
     → bitOr (bitOr f (bitOr (boolByte a * 2 ^ accessed-bit % 2 ^ 16) (boolByte w * 2 ^ write-bit % 2 ^ 16))) (present-kind * 2 ^ kind-bit) ≡ present-word f w a
 spelled f w a h =
     let flags : bitOr (bit a * 2 ^ accessed-bit) (bit w * 2 ^ write-bit) ≡ (bit w * 2 + bit a) * 2 ^ accessed-bit =
-        or-shifted-r (bit w) write-bit (bit a * 2 ^ accessed-bit) (grind (arith, bit-tells a)) ∙ omega arith in
+    or-shifted-r (bit w) write-bit (bit a * 2 ^ accessed-bit) (grind (arith, bit-tells a)) ∙ omega arith in
     let low : bitOr f ((bit w * 2 + bit a) * 2 ^ accessed-bit) ≡ (bit w * 2 + bit a) * 2 ^ accessed-bit + f =
-        or-shifted-r (bit w * 2 + bit a) accessed-bit f (omega arith) in
+    or-shifted-r (bit w * 2 + bit a) accessed-bit f (omega arith) in
     rw (shifted a .0, shifted w .1, flags, low)
     (or-shifted-r present-kind kind-bit ((bit w * 2 + bit a) * 2 ^ accessed-bit + f) (grind (arith, bit-tells a, bit-tells w)) ∙ omega arith)
 
@@ -70,11 +71,10 @@ there (Ready Absent) w e = let z : absent-word ≡ w = cc in rw (← z) (refl, r
 there (Ready (Present f b a)) w e =
     let fits : f ≤ max-frame = leb-true f max-frame (let-through (leb f max-frame) (present-word f b a) w e .0) in
     let is : present-word f b a ≡ w = let-through (leb f max-frame) (present-word f b a) w e .1 in
-    let kind : w / 2 ^ kind-bit ≡ present-kind = grind (arith, bit-tells b, bit-tells a) in
-    (
+    let kind : w / 2 ^ kind-bit ≡ present-kind = grind (arith, bit-tells b, bit-tells a) in (
       means-present w f b a kind (grind (arith, bit-tells b, bit-tells a)) (grind (arith, tells, bit-tells b, bit-tells a))
-      (grind (arith, tells, bit-tells b, bit-tells a)),
-      grind (arith, tells)
+          (grind (arith, tells, bit-tells b, bit-tells a)),
+      grind (arith, tells),
     )
 
 -- there and back from a lawful word
@@ -82,18 +82,25 @@ pub back : (w : ℕ) → lawful-word w ≡ true → word-of (state-of w) ≡ Som
 back w h =
     ⊎-elim (λ z. rw (eqb-true w 0 z) refl)
     (λ m. ⊎-elim (λ z. rw (eqb-true w absent-word z) refl)
-      (λ z.
-        let kind : w / 2 ^ kind-bit ≡ present-kind = eqb-true (w / 2 ^ kind-bit) present-kind z in
-        let fits : leb (w % 2 ^ frame-bits) max-frame ≡ true = grind (arith, tells) in
-        rw (means-present w (w % 2 ^ frame-bits) (bit-set w write-bit) (bit-set w accessed-bit) kind refl refl refl, fits)
-        (ap (λ (n : ℕ). Some n) (respelled w kind)))
-      (or-cases (eqb w absent-word) (eqb (w / 2 ^ kind-bit) present-kind) m))
+    (λ z.
+    let kind : w / 2 ^ kind-bit ≡ present-kind = eqb-true (w / 2 ^ kind-bit) present-kind z in
+    let fits : leb (w % 2 ^ frame-bits) max-frame ≡ true = grind (arith, tells) in
+    rw (means-present w (w % 2 ^ frame-bits) (bit-set w write-bit) (bit-set w accessed-bit) kind refl refl refl, fits)
+    (ap (λ (n : ℕ). Some n) (respelled w kind)))
+    (or-cases (eqb w absent-word) (eqb (w / 2 ^ kind-bit) present-kind) m))
     (or-cases (eqb w 0) (eqb w absent-word || eqb (w / 2 ^ kind-bit) present-kind) h)
 
 -- the word of a state is its one lawful word
 pub sole : (s : PageState) (w : ℕ) → word-of s ≡ Some w → Sole s w
 sole s w e = record {
-    means = there s w e .0;
-    lawful = there s w e .1;
-    only = λ v l m. let t : word-of s ≡ Some v = rw (← m) (back v l) in cc
-  }
+  means = there s w e .0;
+  lawful = there s w e .1;
+  only = λ v l m. let t : word-of s ≡ Some v = rw (← m) (back v l) in cc;
+}
+
+-- the word that is stored for an entry means it
+pub stored : (e : Entry) → storable e ≡ true → state-of (valueOr (word-of (Ready e)) 0) ≡ Ready e
+stored Absent h = refl
+stored (Present f b a) h =
+    let is : word-of (Ready (Present f b a)) ≡ Some (present-word f b a) = cond-true (leb f max-frame) (Some (present-word f b a)) None h in
+    ap (λ (o : Option ℕ). state-of (valueOr o 0)) is ∙ sole (Ready (Present f b a)) (present-word f b a) is .means

@@ -28,17 +28,17 @@ ready-within ws q h =
 module _ (f : ℕ → ℕ) (a : ℕ) (ws : List ℕ) where
   -- one page more
   pub rewrites-more : (i v : ℕ) (vs : List ℕ) → a ≤ i → i < length vs → v ≡ f (getD vs i 0) → Rewrites f a (i - a) ws vs
-    → Rewrites f a (i + 1 - a) ws (set vs i v)
+      → Rewrites f a (i + 1 - a) ws (set vs i v)
   rewrites-more i v vs low high e r = record {
-      long = length-set vs i v ∙ r .long;
-      words = λ k h. ⊎-elim
-          (λ (same : k ≡ i).
-            let in-now : within a (i + 1 - a) k ≡ true = grind (arith, tells) in
-            let out : within a (i - a) i ≡ false = grind (arith, tells) in
-            let was : getD vs i 0 ≡ getD ws i 0 = r .words i (omega arith) ∙ cond-false (within a (i - a) i) (f (getD ws i 0)) (getD ws i 0) out in
-            rw (in-now, same, getD-set-same vs i v 0 high, e, was) refl)
-          (λ other.
-            let alike : within a (i + 1 - a) k ≡ within a (i - a) k = grind (arith, tells) in
-            rw (alike, getD-set-other vs i k v 0 other) (r .words k h))
-          (cases-eq k i)
-    }
+    long = length-set vs i v ∙ r .long;
+    words = λ k h. ⊎-elim
+        (λ (same : k ≡ i).
+        let in-now : within a (i + 1 - a) k ≡ true = grind (arith, tells) in
+        let out : within a (i - a) i ≡ false = grind (arith, tells) in
+        let was : getD vs i 0 ≡ getD ws i 0 = r .words i (omega arith) ∙ cond-false (within a (i - a) i) (f (getD ws i 0)) (getD ws i 0) out in
+        rw (in-now, same, getD-set-same vs i v 0 high, e, was) refl)
+        (λ other.
+        let alike : within a (i + 1 - a) k ≡ within a (i - a) k = grind (arith, tells) in
+        rw (alike, getD-set-other vs i k v 0 other) (r .words k h))
+        (cases-eq k i);
+  }

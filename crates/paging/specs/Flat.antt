@@ -7,6 +7,8 @@ use lib.Dec.{leb, ltb}
 use lib.ListN.{length, getD}
 use Rattle.std.specs.declared.option.Option.{Option}
 use Rattle.std.specs.declared.option.Option.the-variants.{None, Some}
+use Rattle.std.specs.declared.result.Result.{Result}
+use Rattle.std.specs.Results.{Cases}
 use Rattle.paging.specs.declared.page.Fault.{Fault}
 use Rattle.paging.specs.declared.page.PageState.{PageState}
 use Rattle.paging.specs.declared.page.PageState.the-variants.{Unready}
@@ -31,12 +33,21 @@ whole ws = leb flat-words (length ws)
 abbrev pub place : ℕ → ℕ → ℕ
 place p q = p * flat-pages + q
 
+-- whether page q of process p has a word
+abbrev pub has-word : List ℕ → ℕ → ℕ → Bool
+has-word ws p q = whole ws && (ltb p processes && ltb q flat-pages)
+
+-- the state of page q of process p: a page without a word is unready
 abbrev pub flat-state : List ℕ → ℕ → ℕ → PageState
-flat-state ws p q = cond (whole ws && (ltb p processes && ltb q flat-pages)) (state-of (getD ws (place p q) 0)) Unready
+flat-state ws p q = cond (has-word ws p q) (state-of (getD ws (place p q) 0)) Unready
+
+-- whether a range fits: every range does that is not ruled out
+abbrev pub flat-fits : List ℕ → ℕ → ℕ → ℕ → Bool
+flat-fits ws p a n = whole ws && not (ruled-out flat-pages p a n)
 
 -- the fault names the range's process and first page
 abbrev pub flat-fault : List ℕ → ℕ → ℕ → ℕ → Option Fault
-flat-fault ws p a n = cond (whole ws && not (ruled-out flat-pages p a n)) None (Some (record { process = p; page = a }))
+flat-fault ws p a n = cond (flat-fits ws p a n) None (Some (record { process = p; page = a }))
 
 abbrev pub flat : List ℕ → Meaning
 flat ws = by-states (flat-state ws) (flat-fault ws)
@@ -45,5 +56,9 @@ flat ws = by-states (flat-state ws) (flat-fault ws)
 pub record Wrote (f : ℕ → ℕ) (p a n : ℕ) (ws vs : List ℕ) : Type 0 where
   pub long : length vs ≡ length ws
   pub table : (r q : ℕ) → r < processes → q < flat-pages
-    → getD vs (place r q) 0 ≡ cond (whole ws && in-range p a n r q) (f (getD ws (place r q) 0)) (getD ws (place r q) 0)
+      → getD vs (place r q) 0 ≡ cond (whole ws && in-range p a n r q) (f (getD ws (place r q) 0)) (getD ws (place r q) 0)
   pub rest : (k : ℕ) → flat-words ≤ k → getD vs k 0 ≡ getD ws k 0
+
+-- the same where the table did it, and nothing was written where it refused
+abbrev pub WroteIf : Result (Unit {0}) Fault → (ℕ → ℕ) → ℕ → ℕ → ℕ → List ℕ → List ℕ → Type 0
+WroteIf r f p a n ws vs = Cases r (λ _. Wrote f p a n ws vs) (λ _. vs ≡ ws)

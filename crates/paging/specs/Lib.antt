@@ -6,3 +6,4 @@ pub mod Effects
 pub mod States
 pub mod Window
 pub mod Flat
+pub mod FlatLawful

@@ -1,6 +1,7 @@
--- A page table by the state of each of its pages.
-use mathlib.Core.Bool.{Bool, true, false}
+-- A page table by the state of each of its pages, and what each operation does to the states.
+use mathlib.Core.Bool.{Bool, true, false, cond, _&&_}
 use Prim.Native.Nat.{ℕ}
+use lib.Dec.{eqb}
 use Rattle.std.specs.declared.option.Option.{Option}
 use Rattle.paging.specs.declared.page.Entry.{Entry}
 use Rattle.paging.specs.declared.page.Entry.the-variants.{Absent}
@@ -17,6 +18,10 @@ entry-of (Ready e) = e
 abbrev pub is-ready : PageState → Bool
 is-ready Unready = false
 is-ready (Ready e) = true
+
+-- the state of a page once it is ready: it keeps its entry
+abbrev pub made-ready : PageState → PageState
+made-ready s = Ready (entry-of s)
 
 -- the table whose pages have these states and whose ranges have these faults
 abbrev pub by-states : (ℕ → ℕ → PageState) → (ℕ → ℕ → ℕ → Option Fault) → Meaning

@@ -1,9 +1,13 @@
 // Page tables: the entry of a page, the word that stores it, the interface that every table keeps, and the flat table.
 mod flat;
 mod page;
+mod range;
 mod table;
 mod window;
 mod word;
+
+pub use flat::FlatPageTable;
+pub use flat::FlatTable;
 pub use page::Entry;
 pub use page::Fault;
 pub use page::PageState;

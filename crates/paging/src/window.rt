@@ -7,10 +7,10 @@ ghost use Rattle.paging.specs.Window.{readied, replaced, Rewrites, unreadied, 
 ghost use Rattle.paging.specs.Word.{storable};
 use crate::page::Entry;
 use crate::page::PageState;
-use crate::word::decode;
-use crate::word::encode;
 use crate::word::READY_ABSENT;
 use crate::word::UNREADY;
+use crate::word::decode;
+use crate::word::encode;
 
 pub(crate) fn look(window: &[u16], page: u32) -> PageState
     ensures { λ r. ⌜ r ≡ window-state (now (window .entry)) page ⌝ }

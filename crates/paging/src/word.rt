@@ -10,16 +10,21 @@ use crate::page::PageState;
 
 // From the low end: the frame, the accessed bit, the write bit, and two bits for the kind of state.
 const FRAME_BITS: u16 = 12;
+
 const ACCESSED_BIT: u16 = FRAME_BITS;
+
 const WRITE_BIT: u16 = ACCESSED_BIT + 1;
+
 const KIND_BIT: u16 = WRITE_BIT + 1;
 
 // The kinds: 0 is unready, and 3 has no use.
 const ABSENT: u16 = 1;
+
 const PRESENT: u16 = 2;
 
 // The words of the two states that map nothing.
 pub(crate) const UNREADY: u16 = 0;
+
 pub(crate) const READY_ABSENT: u16 = ABSENT << KIND_BIT;
 
 // The greatest frame that an entry can hold.
@@ -33,11 +38,13 @@ pub fn encode(state: PageState) -> Option<u16>
     match state {
         PageState::Unready => Some(UNREADY),
         PageState::Ready(Entry::Absent) => Some(READY_ABSENT),
-        PageState::Ready(Entry::Present {
-            frame,
-            write,
-            accessed,
-        }) => {
+        PageState::Ready(
+            Entry::Present {
+                frame,
+                write,
+                accessed,
+            },
+        ) => {
             if frame > MAX_FRAME {
                 return None;
             }

@@ -16,7 +16,7 @@ returns c =
     let k = p * 1024 + 1024 - p * 1024 in
     record {
       done = c .put .ensures .done
-        ∙ ap (λ (s : PageState). is-ready s && storable (c .args .entry)) (window-looks p ws (c .if-not-has-window .ensures tt) k (omega arith) (c .args .page));
+          ∙ ap (λ (s : PageState). is-ready s && storable (c .args .entry)) (window-looks p ws (c .if-not-has-window .ensures tt) k (omega arith) (c .args .page));
       after = window-wrote-when p ws (c .if-not-has-window .ensures tt) k (omega arith) (replaced (c .args .entry)) (c .args .page) 1
-        (c .put .last .window) (c .put .result) (c .put .ensures .after)
+          (c .put .last .window) (c .put .result) (c .put .ensures .after);
     }

@@ -10,4 +10,3 @@ within-window c = ready-within (c .args .window .now) (c .args .page) (sym (ap i
 
 pub index-window-page : need.index-window-page
 index-window-page c = within-window c
-
