@@ -18,6 +18,7 @@ use Rattle.paging.specs.declared.page.PageState.{PageState}
 use Rattle.paging.specs.declared.page.PageState.the-variants.{Unready, Ready}
 use Rattle.paging.specs.Layout.{frame-bits, accessed-bit, write-bit, kind-bit, absent-kind, present-kind, max-frame}
 use Rattle.paging.specs.Word.{bit, bit-set, absent-word, present-word, word-of, entry-in, state-of, lawful-word, storable, Sole}
+use Rattle.paging.proofs.Tests.{let-through}
 
 -- a flag and the number in its bit
 bit-tells : (b : Bool) → ((b ≡ true) × (bit b ≡ 1)) ⊎ ((b ≡ false) × (bit b ≡ 0))
@@ -58,11 +59,6 @@ read-off n r e kind =
 -- and it is the word of its entry
 respelled : (n : ℕ) → n / 2 ^ kind-bit ≡ present-kind → present-word (n % 2 ^ frame-bits) (bit-set n write-bit) (bit-set n accessed-bit) ≡ n
 respelled n k = grind (arith, tells)
-
--- the word that a test lets through
-let-through : (t : Bool) (v w : ℕ) → cond t (Some v) None ≡ Some w → (t ≡ true) × (v ≡ w)
-let-through true v w e = (refl, cc)
-let-through false v w e = let z : _≡_ {A = ℕ} 0 1 = cc in absurd (omega arith)
 
 -- there and back from a state
 there : (s : PageState) (w : ℕ) → word-of s ≡ Some w → (state-of w ≡ s) × (lawful-word w ≡ true)

@@ -1,6 +1,7 @@
+pub mod Tests
 pub mod Codec
 pub mod Parts
 pub mod Windows
-pub mod FlatWords
 pub mod Lifts
+pub mod FlatWords
 pub mod FlatMeaning

@@ -33,6 +33,10 @@ whole ws = leb flat-words (length ws)
 abbrev pub place : ℕ → ℕ → ℕ
 place p q = p * flat-pages + q
 
+-- where the window of process p begins, or none where it has none
+abbrev pub window-start : List ℕ → ℕ → Option ℕ
+window-start ws p = cond (whole ws && ltb p processes) (Some (place p 0)) None
+
 -- whether page q of process p has a word
 abbrev pub has-word : List ℕ → ℕ → ℕ → Bool
 has-word ws p q = whole ws && (ltb p processes && ltb q flat-pages)

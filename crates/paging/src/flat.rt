@@ -3,11 +3,9 @@ ghost use mathlib.Core.Bool.{_&&_};
 ghost use mathlib.Core.Path.{_≡_};
 ghost use Rattle.std.specs.Orderings.{When};
 ghost use denote.Ref.{name, now};
-ghost use lib.Dec.{ltb};
 ghost use Rattle.paging.specs.Effects.{Puts, Releases, Reserves};
-ghost use Rattle.paging.specs.Flat.{flat, flat-fits, flat-pages, flat-state, whole, Wrote, WroteIf};
+ghost use Rattle.paging.specs.Flat.{flat, flat-fits, flat-pages, flat-state, window-start, Wrote, WroteIf};
 ghost use Rattle.paging.specs.FlatLawful.{flat-lawful};
-ghost use Rattle.paging.specs.Ranges.{processes};
 ghost use Rattle.paging.specs.States.{is-ready};
 ghost use Rattle.paging.specs.Window.{readied, replaced, unreadied};
 ghost use Rattle.paging.specs.Word.{storable};
@@ -96,62 +94,57 @@ pub impl<'a> PageTable for FlatTable<'a> as FlatPageTable {
     }
 }
 
-// Whether the memory is long enough, and the range not ruled out.
-fn fits(words: &[u16], process: u32, first: u32, count: u32) -> bool
-    ensures { λ r. ⌜ r ≡ flat-fits (now (words .entry)) process first count ⌝ }
+// Where the process's window begins; none where the memory is too short or the process too large.
+fn window_start(words: &[u16], process: u32) -> Option<usize>
+    ensures { λ r. ⌜ r ≡ window-start (now (words .entry)) process ⌝ }
 {
-    words.len() >= WORDS && !ruled_out(FlatPageTable::PAGES, process, first, count)
+    if words.len() < WORDS || process >= PROCESSES {
+        return None;
+    }
+    Some(process as usize * WINDOW)
 }
 
-// Whether the memory has a window for the process.
-fn has_window(words: &[u16], process: u32) -> bool
-    ensures { λ r. ⌜ r ≡ (whole (now (words .entry)) && ltb process processes) ⌝ }
-{
-    words.len() >= WORDS && process < PROCESSES
-}
-
-// Hands the process's window on. A page of a process that has none is unready.
+// Hands the process's window on. Without one the page is unready.
 fn look_in(words: &[u16], process: u32, page: u32) -> PageState
     ensures { λ r. ⌜ r ≡ flat-state (now (words .entry)) process page ⌝ }
 {
-    if !has_window(words, process) {
+    let Some(start) = window_start(words, process) else {
         return PageState::Unready;
-    }
-    let start = process as usize * WINDOW;
+    };
     window::look(&words[start..start + WINDOW], page)
 }
 
-// Hands the process's window on.
+// Hands the process's window on. Without one there is no page to put an entry at.
 fn put_in(words: &mut [u16], process: u32, page: u32, entry: Entry) -> bool
     ensures done { λ r. ⌜ r ≡ (is-ready (flat-state (now (words .entry)) process page) && storable entry) ⌝ }
     ensures after { λ r. ⌜ When r (Wrote (replaced entry) process page 1 (now (words .entry)) (now (words .exit))) (now (words .exit) ≡ now (words .entry)) ⌝ }
 {
-    if !has_window(words, process) {
+    let Some(start) = window_start(words, process) else {
         return false;
-    }
-    let start = process as usize * WINDOW;
+    };
     window::put(&mut words[start..start + WINDOW], page, entry)
 }
 
-// Hands the process's window on, where the range fits.
+// Hands the process's window on, unless the range is ruled out.
 fn reserve_in(words: &mut [u16], process: u32, first: u32, count: u32) -> bool
     ensures done { λ r. ⌜ r ≡ flat-fits (now (words .entry)) process first count ⌝ }
     ensures after { λ r. ⌜ When r (Wrote readied process first count (now (words .entry)) (now (words .exit))) (now (words .exit) ≡ now (words .entry)) ⌝ }
 {
-    if !fits(words, process, first, count) {
+    if ruled_out(FlatPageTable::PAGES, process, first, count) {
         return false;
     }
-    let start = process as usize * WINDOW;
+    let Some(start) = window_start(words, process) else {
+        return false;
+    };
     window::reserve(&mut words[start..start + WINDOW], first, count);
     true
 }
 
-// Hands the process's window on.
+// Hands the process's window on. Without one there is nothing to release.
 fn release_in(words: &mut [u16], process: u32, first: u32, count: u32)
     ensures { λ _. ⌜ Wrote unreadied process first count (now (words .entry)) (now (words .exit)) ⌝ }
 {
-    if has_window(words, process) {
-        let start = process as usize * WINDOW;
+    if let Some(start) = window_start(words, process) {
         window::release(&mut words[start..start + WINDOW], first, count);
     }
 }

@@ -1,6 +1,6 @@
 use mathlib.Core.Path.{ap, _∙_}
 use mathlib.Core.Bool.{_&&_}
-use Prim.Native.Nat.{_+_, _-_, _*_}
+use Prim.Native.Nat.{_+_, _-_}
 use native.Mathlib.Omega.{arith}
 use Rattle.paging.specs.declared.page.PageState.{PageState}
 use Rattle.paging.specs.States.{is-ready}
@@ -12,11 +12,11 @@ use Rattle.paging.proofs.flat.put_in.Needs as need
 pub returns : need.returns
 returns c =
     let p = c .args .process in
+    let s = c .in-Some .start in
     let ws = c .args .words .now in
-    let k = p * 1024 + 1024 - p * 1024 in
     record {
       done = c .put .ensures .done
-          ∙ ap (λ (s : PageState). is-ready s && storable (c .args .entry)) (window-looks p ws (c .if-not-has-window .ensures tt) k (omega arith) (c .args .page));
-      after = window-wrote-when p ws (c .if-not-has-window .ensures tt) k (omega arith) (replaced (c .args .entry)) (c .args .page) 1
-          (c .put .last .window) (c .put .result) (c .put .ensures .after);
+        ∙ ap (λ (x : PageState). is-ready x && storable (c .args .entry)) (window-looks p s (s + 1024 - s) ws (c .in-Some .ensures tt) (omega arith) (c .args .page));
+      after = window-wrote-when p s (s + 1024 - s) ws (c .in-Some .ensures tt) (omega arith) (replaced (c .args .entry)) (c .args .page) 1
+        (c .put .last .window) (c .put .result) (c .put .ensures .after)
     }

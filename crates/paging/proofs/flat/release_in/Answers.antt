@@ -1,8 +1,11 @@
-use Prim.Native.Nat.{_+_, _-_, _*_}
+use Prim.Native.Nat.{_+_, _-_}
 use native.Mathlib.Omega.{arith}
 use Rattle.paging.specs.Window.{unreadied}
-use Rattle.paging.proofs.FlatWords.{window-wrote, wrote-none}
+use Rattle.paging.proofs.FlatWords.{window-wrote}
 use Rattle.paging.proofs.flat.release_in.Needs as need
 
-pub returns-then-has-window : need.returns-then-has-window
-returns-then-has-window c = window-wrote (c .args .process) (c .args .words .now) (c .if-has-window .ensures tt) (c .args .process * 1024 + 1024 - c .args .process * 1024) (omega arith) unreadied (c .args .first) (c .args .count) (c .release .last .window) (c .release .ensures)
+pub returns-in-Some : need.returns-in-Some
+returns-in-Some c =
+    let s = c .in-Some .start in
+    window-wrote (c .args .process) s (s + 1024 - s) (c .args .words .now) (c .in-Some .ensures tt) (omega arith) unreadied (c .args .first)
+    (c .args .count) (c .release .last .window) (c .release .ensures)
