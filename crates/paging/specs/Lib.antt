@@ -7,3 +7,4 @@ pub mod States
 pub mod Window
 pub mod Flat
 pub mod FlatLawful
+pub mod Shown

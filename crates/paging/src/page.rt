@@ -1,4 +1,10 @@
 // What a page table says of a page.
+ghost use mathlib.Core.Bool.{cond};
+ghost use mathlib.Core.Path.{_≡_};
+ghost use lib.Chars.{codes};
+ghost use Rattle.std.specs.declared.option.Option.the-variants.{Some};
+ghost use Rattle.paging.specs.Shown.{entry-text, fault-text};
+use std::fmt;
 
 // What a page maps: nothing, or a frame with its two bits.
 #[derive(Clone, Copy, PartialEq, Eq, Debug)]
@@ -23,4 +29,40 @@ pub enum PageState {
 pub struct Fault {
     pub process: u32,
     pub page: u32,
+}
+
+// The letter where the flag is set, else a dash.
+fn letter(set: bool, name: &str) -> &str
+    ensures { λ r. ⌜ now r ≡ cond set (now (name .entry)) (codes "-") ⌝ }
+{
+    if set { name } else { "-" }
+}
+
+pub impl fmt::Display for Entry as EntryDisplay {
+    ghost shown = { λ e. Some (entry-text e) };
+
+    fn fmt<W: fmt::Write>(&self, f: &mut fmt::Formatter<W>) -> fmt::Result {
+        match self {
+            Entry::Absent => write!(f, "absent"),
+            Entry::Present {
+                frame,
+                write,
+                accessed,
+            } => {
+                let w = letter(*write, "w");
+                let a = letter(*accessed, "a");
+                write!(f, "{frame}:{w}{a}")
+            }
+        }
+    }
+}
+
+pub impl fmt::Display for Fault as FaultDisplay {
+    ghost shown = { λ f. Some (fault-text f) };
+
+    fn fmt<W: fmt::Write>(&self, f: &mut fmt::Formatter<W>) -> fmt::Result {
+        let process = self.process;
+        let page = self.page;
+        write!(f, "{process}:{page}")
+    }
 }
