@@ -46,13 +46,13 @@ module _ (p s k : ℕ) (ws : List ℕ) (start : Some s ≡ window-start ws p) (s
   window-looks q =
       ⊎-elim
       (λ (h : q < k).
-        let test : has-word ws p q ≡ true = let y = has in grind (arith, tells) in
-        ap state-of (part-at s k ws window-fits q h ∙ ap (λ (i : ℕ). getD ws (i + q) 0) at)
-        ∙ sym (cond-true (has-word ws p q) (state-of (getD ws (place p q) 0)) Unready test))
+      let test : has-word ws p q ≡ true = let y = has in grind (arith, tells) in
+      ap state-of (part-at s k ws window-fits q h ∙ ap (λ (i : ℕ). getD ws (i + q) 0) at)
+      ∙ sym (cond-true (has-word ws p q) (state-of (getD ws (place p q) 0)) Unready test))
       (λ past.
-        let test : has-word ws p q ≡ false = grind (arith, tells) in
-        sym (past-window (take k (drop s ws)) q (omega (arith, window-length)))
-        ∙ sym (cond-false (has-word ws p q) (state-of (getD ws (place p q) 0)) Unready test))
+      let test : has-word ws p q ≡ false = grind (arith, tells) in
+      sym (past-window (take k (drop s ws)) q (omega (arith, window-length)))
+      ∙ sym (cond-false (has-word ws p q) (state-of (getD ws (place p q) 0)) Unready test))
       (cases-lt q k)
 
   -- what is written in the window is written in the memory
@@ -66,25 +66,25 @@ module _ (p s k : ℕ) (ws : List ℕ) (start : Some s ≡ window-start ws p) (s
         long = spliced-length s k ws window-fits vs long;
         table = λ r q x y. ⊎-elim
             (λ (same : r ≡ p).
-              let alike : (whole ws && in-range p a n r q) ≡ within a n q = grind (arith, tells) in
-              let here : getD after (s + q) 0 ≡ cond (within a n q) (f (getD ws (s + q) 0)) (getD ws (s + q) 0) =
-                spliced-inside s k ws window-fits vs long q (omega arith)
-                ∙ rw (← part-at s k ws window-fits q (omega arith)) (w .words q (omega (arith, window-length))) in
-              let spot : s + q ≡ place r q = omega arith in
-              rw (alike, ← spot) here)
+            let alike : (whole ws && in-range p a n r q) ≡ within a n q = grind (arith, tells) in
+            let here : getD after (s + q) 0 ≡ cond (within a n q) (f (getD ws (s + q) 0)) (getD ws (s + q) 0) =
+            spliced-inside s k ws window-fits vs long q (omega arith)
+            ∙ rw (← part-at s k ws window-fits q (omega arith)) (w .words q (omega (arith, window-length))) in
+            let spot : s + q ≡ place r q = omega arith in
+            rw (alike, ← spot) here)
             (λ other.
-              let out : (whole ws && in-range p a n r q) ≡ false = grind (arith, tells) in
-              let kept : getD after (place r q) 0 ≡ getD ws (place r q) 0 =
-                ⊎-elim (λ (below : r < p). spliced-below s k ws window-fits vs long (place r q) (omega arith))
-                (λ (above : p < r). spliced-above s k ws window-fits vs long (place r q) (omega arith)) other in
-              rw out kept)
+            let out : (whole ws && in-range p a n r q) ≡ false = grind (arith, tells) in
+            let kept : getD after (place r q) 0 ≡ getD ws (place r q) 0 =
+            ⊎-elim (λ (below : r < p). spliced-below s k ws window-fits vs long (place r q) (omega arith))
+            (λ (above : p < r). spliced-above s k ws window-fits vs long (place r q) (omega arith)) other in
+            rw out kept)
             (cases-order r p);
-        rest = λ i x. spliced-above s k ws window-fits vs long i (grind (arith, tells))
+        rest = λ i x. spliced-above s k ws window-fits vs long i (grind (arith, tells));
       }
 
   -- the same where the window may have been left as it was
   pub window-wrote-when : (f : ℕ → ℕ) (a n : ℕ) (vs : List ℕ) (done : Bool)
-    → When done (Rewrites f a n (take k (drop s ws)) vs) (vs ≡ take k (drop s ws))
-    → When done (Wrote f p a n ws (putMid s k ws vs)) (putMid s k ws vs ≡ ws)
+      → When done (Rewrites f a n (take k (drop s ws)) vs) (vs ≡ take k (drop s ws))
+      → When done (Wrote f p a n ws (putMid s k ws vs)) (putMid s k ws vs ≡ ws)
   window-wrote-when f a n vs true w = window-wrote f a n vs w
   window-wrote-when f a n vs false e = spliced-same s k ws window-fits vs e

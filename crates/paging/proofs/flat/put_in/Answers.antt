@@ -16,7 +16,7 @@ returns c =
     let ws = c .args .words .now in
     record {
       done = c .put .ensures .done
-        ∙ ap (λ (x : PageState). is-ready x && storable (c .args .entry)) (window-looks p s (s + 1024 - s) ws (c .in-Some .ensures tt) (omega arith) (c .args .page));
+          ∙ ap (λ (x : PageState). is-ready x && storable (c .args .entry)) (window-looks p s (s + 1024 - s) ws (c .in-Some .ensures tt) (omega arith) (c .args .page));
       after = window-wrote-when p s (s + 1024 - s) ws (c .in-Some .ensures tt) (omega arith) (replaced (c .args .entry)) (c .args .page) 1
-        (c .put .last .window) (c .put .result) (c .put .ensures .after)
+          (c .put .last .window) (c .put .result) (c .put .ensures .after);
     }
