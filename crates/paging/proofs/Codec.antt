@@ -1,4 +1,4 @@
--- The stored word: the code's bits spell the definition's sum, and each state has one lawful word.
+-- The stored word: there and back is the identity, and each state has one lawful word.
 use mathlib.Core.Path.{_≡_, refl, sym, ap, _∙_}
 use mathlib.Core.Bool.{Bool, true, false, cond, _||_}
 use mathlib.Core.Logic.{_⊎_, inl, inr, ⊎-elim}
@@ -8,7 +8,7 @@ use lib.Bits.{bitAnd, bitOr, or-shifted-r, and-mask}
 use lib.Dec.{eqb, leb}
 use mir.Val.{boolByte}
 use Rattle.std.proofs.shelf.Ways.{tells}
-use Rattle.std.proofs.shelf.Tests.{cond-true, or-cases, eqb-true, leb-true}
+use Rattle.std.proofs.shelf.Tests.{cond-true, or-cases, or-parts, eqb-true, leb-true}
 use Rattle.std.specs.Options.{valueOr}
 use Rattle.std.specs.declared.option.Option.{Option}
 use Rattle.std.specs.declared.option.Option.the-variants.{None, Some}
@@ -17,29 +17,13 @@ use Rattle.paging.specs.declared.page.Entry.the-variants.{Absent, Present}
 use Rattle.paging.specs.declared.page.PageState.{PageState}
 use Rattle.paging.specs.declared.page.PageState.the-variants.{Unready, Ready}
 use Rattle.paging.specs.Layout.{frame-bits, accessed-bit, write-bit, kind-bit, absent-kind, present-kind, max-frame}
-use Rattle.paging.specs.Word.{bit, bit-set, absent-word, present-word, word-of, entry-in, state-of, lawful-word, storable, Sole}
+use Rattle.paging.specs.Word.{bit, bit-set, absent-word, present-word, word-of, entry-in, state-of, lawful-word, storable, Exact}
 use Rattle.paging.proofs.Tests.{let-through}
 
 -- a flag and the number in its bit
 bit-tells : (b : Bool) → ((b ≡ true) × (bit b ≡ 1)) ⊎ ((b ≡ false) × (bit b ≡ 0))
 bit-tells true = inl (refl, refl)
 bit-tells false = inr (refl, refl)
-
--- a flag that the code shifts to its place
-shifted : (b : Bool) → (boolByte b * 2 ^ accessed-bit % 2 ^ 16 ≡ bit b * 2 ^ accessed-bit) × (boolByte b * 2 ^ write-bit % 2 ^ 16 ≡ bit b * 2 ^ write-bit)
-shifted true = (refl, refl)
-shifted false = (refl, refl)
-
--- the parts that the code puts together are the sum
-pub spelled : (f : ℕ) (w a : Bool) → f ≤ max-frame
-    → bitOr (bitOr f (bitOr (boolByte a * 2 ^ accessed-bit % 2 ^ 16) (boolByte w * 2 ^ write-bit % 2 ^ 16))) (present-kind * 2 ^ kind-bit) ≡ present-word f w a
-spelled f w a h =
-    let flags : bitOr (bit a * 2 ^ accessed-bit) (bit w * 2 ^ write-bit) ≡ (bit w * 2 + bit a) * 2 ^ accessed-bit =
-    or-shifted-r (bit w) write-bit (bit a * 2 ^ accessed-bit) (grind (arith, bit-tells a)) ∙ omega arith in
-    let low : bitOr f ((bit w * 2 + bit a) * 2 ^ accessed-bit) ≡ (bit w * 2 + bit a) * 2 ^ accessed-bit + f =
-    or-shifted-r (bit w * 2 + bit a) accessed-bit f (omega arith) in
-    rw (shifted a .0, shifted w .1, flags, low)
-    (or-shifted-r present-kind kind-bit ((bit w * 2 + bit a) * 2 ^ accessed-bit + f) (grind (arith, bit-tells a, bit-tells w)) ∙ omega arith)
 
 -- a word of the present kind means its entry
 means-present : (n f : ℕ) (w a : Bool) → n / 2 ^ kind-bit ≡ present-kind → n % 2 ^ frame-bits ≡ f → bit-set n write-bit ≡ w
@@ -48,13 +32,6 @@ means-present n f w a k e x y =
     let no : eqb n absent-word ≡ false = grind (arith, tells) in
     let yes : eqb (n / 2 ^ kind-bit) present-kind ≡ true = grind (arith, tells) in
     rw (no, yes) cc
-
--- the parts that the code reads off it are those
-pub read-off : (n r : ℕ) → r ≡ n → n / 2 ^ kind-bit ≡ present-kind
-    → Ready (Present (bitAnd r max-frame) (eqb (bitAnd (n / 2 ^ write-bit) 1) 1) (eqb (bitAnd (n / 2 ^ accessed-bit) 1) 1)) ≡ state-of n
-read-off n r e kind =
-    rw (e, and-mask n frame-bits, and-mask (n / 2 ^ write-bit) 1, and-mask (n / 2 ^ accessed-bit) 1)
-    (sym (means-present n (n % 2 ^ frame-bits) (bit-set n write-bit) (bit-set n accessed-bit) kind refl refl refl))
 
 -- and it is the word of its entry
 respelled : (n : ℕ) → n / 2 ^ kind-bit ≡ present-kind → present-word (n % 2 ^ frame-bits) (bit-set n write-bit) (bit-set n accessed-bit) ≡ n
@@ -86,12 +63,13 @@ back w h =
     (or-cases (eqb w absent-word) (eqb (w / 2 ^ kind-bit) present-kind) m))
     (or-cases (eqb w 0) (eqb w absent-word || eqb (w / 2 ^ kind-bit) present-kind) h)
 
--- the word of a state is its one lawful word
-pub sole : (s : PageState) (w : ℕ) → word-of s ≡ Some w → Sole s w
-sole s w e = record {
-  means = there s w e .0;
-  lawful = there s w e .1;
-  only = λ v l m. let t : word-of s ≡ Some v = rw (← m) (back v l) in cc;
+pub exact : Exact
+exact = record {
+  there = there;
+  back = back;
+  single = λ v w lv lw e. let x = back v lv in let y = back w lw in let z : word-of (state-of v) ≡ Some w = rw e y in cc;
+  other = λ w h. let parts = or-parts (eqb w 0) (eqb w absent-word || eqb (w / 2 ^ kind-bit) present-kind) h in
+      let kinds = or-parts (eqb w absent-word) (eqb (w / 2 ^ kind-bit) present-kind) (parts .1) in rw (kinds .0, kinds .1) refl;
 }
 
 -- the word that is stored for an entry means it
@@ -99,4 +77,4 @@ pub stored : (e : Entry) → storable e ≡ true → state-of (valueOr (word-of 
 stored Absent h = refl
 stored (Present f b a) h =
     let is : word-of (Ready (Present f b a)) ≡ Some (present-word f b a) = cond-true (leb f max-frame) (Some (present-word f b a)) None h in
-    ap (λ (o : Option ℕ). state-of (valueOr o 0)) is ∙ sole (Ready (Present f b a)) (present-word f b a) is .means
+    ap (λ (o : Option ℕ). state-of (valueOr o 0)) is ∙ there (Ready (Present f b a)) (present-word f b a) is .0

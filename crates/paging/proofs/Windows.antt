@@ -8,22 +8,16 @@ use native.Mathlib.Omega.{arith}
 use lib.Dec.{eqb, leb, ltb}
 use lib.ListN.{length, getD, set}
 use Rattle.std.proofs.shelf.Lists.{getD-past, getD-set-same, getD-set-other, length-set}
-use Rattle.std.proofs.shelf.Tests.{both-ways, cases-eq, cases-lt, cond-false}
+use Rattle.std.proofs.shelf.Tests.{cases-eq, cond-false}
 use Rattle.std.proofs.shelf.Ways.{tells}
 use Rattle.paging.specs.declared.page.PageState.the-variants.{Unready}
 use Rattle.paging.specs.Ranges.{within}
-use Rattle.paging.specs.States.{is-ready}
 use Rattle.paging.specs.Window.{Rewrites, window-state}
 use Rattle.paging.specs.Word.{state-of}
 
 -- a page past the end is unready
 pub past-window : (ws : List ℕ) (q : ℕ) → length ws ≤ q → Unready ≡ window-state ws q
 past-window ws q h = sym (ap state-of (getD-past ws q 0 h))
-
--- a ready page has a word
-pub ready-within : (ws : List ℕ) (q : ℕ) → is-ready (window-state ws q) ≡ true → q < length ws
-ready-within ws q h =
-    ⊎-elim (λ lt. lt) (λ past. absurd (both-ways (is-ready (window-state ws q)) (ap is-ready (sym (past-window ws q past))) h)) (cases-lt q (length ws))
 
 module _ (f : ℕ → ℕ) (a : ℕ) (ws : List ℕ) where
   -- one page more

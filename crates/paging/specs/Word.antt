@@ -2,7 +2,7 @@
 --     word-of s           the word of the state s, or none where its frame is too large
 --     state-of w          what the word w means
 --     lawful-word w       w is a word that some state has
---     Sole s w            w is the one lawful word that means s
+--     Exact               there and back is the identity, and no second word has the same meaning
 use mathlib.Core.Path.{_≡_}
 use mathlib.Core.Bool.{Bool, true, false, cond, _||_}
 use Prim.Native.Nat.{ℕ, _+_, _*_, _/_, _%_, _^_}
@@ -56,8 +56,13 @@ state-of w = cond (eqb w absent-word) (Ready Absent) (cond (eqb (w / 2 ^ kind-bi
 abbrev pub lawful-word : ℕ → Bool
 lawful-word w = eqb w 0 || (eqb w absent-word || eqb (w / 2 ^ kind-bit) present-kind)
 
--- the word means the state, and no second lawful word does
-pub record Sole (s : PageState) (w : ℕ) : Type 0 where
-  pub means : state-of w ≡ s
-  pub lawful : lawful-word w ≡ true
-  pub only : (v : ℕ) → lawful-word v ≡ true → state-of v ≡ s → v ≡ w
+-- the codec is exact: there is one lawful word for each state that has a word
+pub record Exact : Type 0 where
+  -- from a state to its word and back
+  pub there : (s : PageState) (w : ℕ) → word-of s ≡ Some w → (state-of w ≡ s) × (lawful-word w ≡ true)
+  -- from a lawful word to its state and back
+  pub back : (w : ℕ) → lawful-word w ≡ true → word-of (state-of w) ≡ Some w
+  -- no two lawful words mean the same
+  pub single : (v w : ℕ) → lawful-word v ≡ true → lawful-word w ≡ true → state-of v ≡ state-of w → v ≡ w
+  -- any other word counts as unready
+  pub other : (w : ℕ) → lawful-word w ≡ false → state-of w ≡ Unready

@@ -1,6 +1,8 @@
 // A window: the stored words of some pages, one after the other. A page past its end counts as unready.
-ghost use mathlib.Core.Bool.{_&&_};
+ghost use mathlib.Core.Bool.{true, _&&_};
 ghost use mathlib.Core.Path.{_≡_};
+ghost use Prim.Native.Nat.{min, _+_, _<_};
+ghost use lib.ListN.{length};
 ghost use Rattle.std.specs.Orderings.{When};
 ghost use Rattle.paging.specs.States.{is-ready};
 ghost use Rattle.paging.specs.Window.{readied, replaced, Rewrites, unreadied, window-state};
@@ -12,8 +14,10 @@ use crate::word::UNREADY;
 use crate::word::decode;
 use crate::word::encode;
 
+// The state of a page.
 pub(crate) fn look(window: &[u16], page: u32) -> PageState
-    ensures { λ r. ⌜ r ≡ window-state (now (window .entry)) page ⌝ }
+    ensures value { λ r. ⌜ r ≡ window-state (now (window .entry)) page ⌝ }
+    ensures within { λ r. ⌜ (is-ready r ≡ true → page < length (now (window .entry))) ⌝ }
 {
     match window.get(page as usize) {
         Some(word) => decode(*word),
@@ -46,11 +50,18 @@ fn ready(word: u16) -> u16
     }
 }
 
+// The end of a range, as far as the window goes.
+fn end_in(window: &[u16], first: u32, count: u32) -> usize
+    ensures { λ r. ⌜ r ≡ min (first + count) (length (now (window .entry))) ⌝ }
+{
+    (first as usize + count as usize).min(window.len())
+}
+
 // Makes the pages of a range ready, as far as the window goes, and keeps their entries.
 pub(crate) fn reserve(window: &mut [u16], first: u32, count: u32)
     ensures { λ _. ⌜ Rewrites readied first count (now (window .entry)) (now (window .exit)) ⌝ }
 {
-    let end = (first as usize + count as usize).min(window.len());
+    let end = end_in(window, first, count);
     for page in first as usize..end {
         window[page] = ready(window[page]);
     }
@@ -60,8 +71,8 @@ pub(crate) fn reserve(window: &mut [u16], first: u32, count: u32)
 pub(crate) fn release(window: &mut [u16], first: u32, count: u32)
     ensures { λ _. ⌜ Rewrites unreadied first count (now (window .entry)) (now (window .exit)) ⌝ }
 {
-    let end = (first as usize + count as usize).min(window.len());
-    for page in first as usize..end {
+    let past = end_in(window, first, count);
+    for page in first as usize..past {
         window[page] = UNREADY;
     }
 }

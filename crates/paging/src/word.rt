@@ -1,10 +1,8 @@
 // The stored word: a page's state in 16 bits.
-ghost use mathlib.Core.Bool.{true, false};
 ghost use mathlib.Core.Path.{_≡_};
-ghost use Rattle.std.specs.declared.option.Option.the-variants.{Some};
-ghost use Rattle.std.specs.Slices.{found};
-ghost use Rattle.paging.specs.declared.page.PageState.the-variants.{Unready};
-ghost use Rattle.paging.specs.Word.{lawful-word, Sole, state-of, word-of};
+ghost use Prim.Native.Nat.{_+_, _*_, _^_};
+ghost use Rattle.paging.specs.Layout.{accessed-bit, write-bit};
+ghost use Rattle.paging.specs.Word.{bit, Exact, state-of, word-of};
 use crate::page::Entry;
 use crate::page::PageState;
 
@@ -27,13 +25,15 @@ pub(crate) const UNREADY: u16 = 0;
 
 pub(crate) const READY_ABSENT: u16 = ABSENT << KIND_BIT;
 
+// How many frames an entry can name.
+const FRAMES: u16 = 1 << FRAME_BITS;
+
 // The greatest frame that an entry can hold.
-pub const MAX_FRAME: u32 = (1 << FRAME_BITS) - 1;
+pub const MAX_FRAME: u32 = FRAMES as u32 - 1;
 
 // The word of a state; none where the frame is too large for one.
 pub fn encode(state: PageState) -> Option<u16>
-    ensures value { λ r. ⌜ r ≡ word-of state ⌝ }
-    ensures sole { λ r. ⌜ found r (λ w. Sole state w) ⌝ }
+    ensures { λ r. ⌜ r ≡ word-of state ⌝ }
 {
     match state {
         PageState::Unready => Some(UNREADY),
@@ -48,25 +48,39 @@ pub fn encode(state: PageState) -> Option<u16>
             if frame > MAX_FRAME {
                 return None;
             }
-            let flags = (accessed as u16) << ACCESSED_BIT | (write as u16) << WRITE_BIT;
-            Some(frame as u16 | flags | PRESENT << KIND_BIT)
+            Some((PRESENT << KIND_BIT) + flags(write, accessed) + frame as u16)
         }
+    }
+}
+
+// The two flags, each in its bit.
+fn flags(write: bool, accessed: bool) -> u16
+    ensures { λ r. ⌜ r ≡ bit write * 2 ^ write-bit + bit accessed * 2 ^ accessed-bit ⌝ }
+{
+    match (write, accessed) {
+        (false, false) => 0,
+        (false, true) => 1 << ACCESSED_BIT,
+        (true, false) => 1 << WRITE_BIT,
+        (true, true) => (1 << WRITE_BIT) + (1 << ACCESSED_BIT),
     }
 }
 
 // What a word means: a word that no state has counts as unready.
 pub fn decode(word: u16) -> PageState
-    ensures value { λ r. ⌜ r ≡ state-of word ⌝ }
-    ensures back { λ r. ⌜ (lawful-word word ≡ true → word-of r ≡ Some word) ⌝ }
-    ensures other { λ r. ⌜ (lawful-word word ≡ false → r ≡ Unready) ⌝ }
+    ensures { λ r. ⌜ r ≡ state-of word ⌝ }
 {
     match word >> KIND_BIT {
         ABSENT if word == READY_ABSENT => PageState::Ready(Entry::Absent),
         PRESENT => PageState::Ready(Entry::Present {
-            frame: u32::from(word) & MAX_FRAME,
-            write: word >> WRITE_BIT & 1 == 1,
-            accessed: word >> ACCESSED_BIT & 1 == 1,
+            frame: u32::from(word % FRAMES),
+            write: (word >> WRITE_BIT) % 2 == 1,
+            accessed: (word >> ACCESSED_BIT) % 2 == 1,
         }),
         _ => PageState::Unready,
     }
 }
+
+// Going there and back is the identity, and no second word has the same meaning.
+pub fn codec_is_exact()
+    ensures { λ _. ⌜ Exact ⌝ }
+{}

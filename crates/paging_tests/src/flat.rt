@@ -54,7 +54,10 @@ fn ranges_that_never_fit(rt: LibcRuntime) -> Result<(), Fail> {
     check_eq(table.reserve(0, 0, 1025), at(0, 0))?;
     check_eq(table.reserve(0, 1, u32::MAX), at(0, 1))?;
     check_eq(table.reserve(0, u32::MAX, 1), at(0, u32::MAX))?;
-    check_eq(table.reserve(u32::MAX, u32::MAX, u32::MAX), at(u32::MAX, u32::MAX))?;
+    check_eq(
+        table.reserve(u32::MAX, u32::MAX, u32::MAX),
+        at(u32::MAX, u32::MAX),
+    )?;
     check_eq(table.reserve(0, 0, 1024), Ok(()))
 }
 
@@ -114,7 +117,17 @@ fn making_clears_nothing_and_longer_memory_is_kept(rt: LibcRuntime) -> Result<()
 #[test]
 fn reserve_over_words_of_every_kind(rt: LibcRuntime) -> Result<(), Fail> {
     let mut memory = vec![in rt.alloc(); 0u16; 32768]?;
-    let words = [0u16, 1, 0x3fff, 0x4000, 0x4001, 0x7fff, 0xc000, 0xffff, 0xa007];
+    let words = [
+        0u16,
+        1,
+        0x3fff,
+        0x4000,
+        0x4001,
+        0x7fff,
+        0xc000,
+        0xffff,
+        0xa007,
+    ];
     for (i, word) in words.iter().enumerate() {
         if let Some(place) = memory.get_mut(i) {
             *place = *word;

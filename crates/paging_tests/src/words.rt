@@ -29,7 +29,20 @@ fn lawful_words() -> Result<(), Fail> {
 #[test]
 fn any_other_word_counts_as_unready() -> Result<(), Fail> {
     // Unready, and ready and absent, with another bit set; and the kind without a use.
-    for word in [1u16, 0x0fff, 0x1000, 0x2000, 0x3fff, 0x4001, 0x5000, 0x6000, 0x7fff, 0xc000, 0xd003, 0xffff] {
+    for word in [
+        1u16,
+        0x0fff,
+        0x1000,
+        0x2000,
+        0x3fff,
+        0x4001,
+        0x5000,
+        0x6000,
+        0x7fff,
+        0xc000,
+        0xd003,
+        0xffff,
+    ] {
         check_eq(decode(word), PageState::Unready)?;
     }
     Ok(())

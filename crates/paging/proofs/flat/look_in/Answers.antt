@@ -7,4 +7,4 @@ use Rattle.paging.proofs.flat.look_in.Needs as need
 pub returns : need.returns
 returns c =
     let s = c .in-Some .start in
-    c .look .ensures ∙ window-looks (c .args .process) s (s + 1024 - s) (c .args .words .now) (c .in-Some .ensures tt) (omega arith) (c .args .page)
+    c .look .ensures .value ∙ window-looks (c .args .process) s (s + 1024 - s) (c .args .words .now) (c .in-Some .ensures tt) (omega arith) (c .args .page)
