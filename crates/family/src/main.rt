@@ -3,6 +3,7 @@ mod story;
 
 use paging::FlatPageTable;
 use paging::FlatTable;
+use paging::Word;
 use std::error::AnyError;
 use story::Story;
 
@@ -12,8 +13,8 @@ fn main(rt: LibcRuntime) -> Result<(), AnyError> {
 }
 
 fn on_flat_table(rt: &LibcRuntime) -> Result<(), AnyError> {
-    println!(rt, "A flat table over 32768 words.")?;
-    let mut memory = vec![in rt.alloc(); 0u16; 32768]?;
+    let mut memory = vec![in rt.alloc(); 0 as Word; FlatTable::WORDS]?;
+    println!(rt, "A flat table over {} words.", memory.len())?;
     Story::new(rt, FlatTable::new(memory.as_mut_slice())).tell()?;
     let greatest = memory.iter().copied().max().unwrap_or(0);
     println!(
@@ -24,8 +25,8 @@ fn on_flat_table(rt: &LibcRuntime) -> Result<(), AnyError> {
 }
 
 fn on_short_memory(rt: &LibcRuntime) -> Result<(), AnyError> {
-    println!(rt, "A flat table over 32767 words, one too few.")?;
-    let mut memory = vec![in rt.alloc(); 0u16; 32767]?;
+    let mut memory = vec![in rt.alloc(); 0 as Word; FlatTable::WORDS - 1]?;
+    println!(rt, "A flat table over {} words, one too few.", memory.len())?;
     Story::new(rt, FlatTable::new(memory.as_mut_slice())).tell_nothing_fits()?;
     Ok(())
 }

@@ -10,6 +10,7 @@ use paging::EntryDisplay;
 use paging::Fault;
 use paging::FaultDisplay;
 use paging::MAX_FRAME;
+use paging::PROCESSES;
 use paging::PageTable;
 use std::fmt;
 use std::io;
@@ -40,7 +41,7 @@ impl Person {
         match self {
             Person::Parent => 0,
             Person::Child => 1,
-            Person::Stranger => 32,
+            Person::Stranger => PROCESSES,
         }
     }
 }
@@ -104,7 +105,7 @@ impl<'a, P: PageTable> Story<'a, P> {
         self.put(Person::Parent, 13, entry(MAX_FRAME + 1, true, true))?;
         self.put(Person::Stranger, 11, entry(3, true, true))?;
         self.reserve(Person::Parent, 5, 0)?;
-        self.reserve(Person::Parent, P::PAGES, 1)?;
+        self.reserve(Person::Parent, P::PAGES.saturating_sub(1), 2)?;
         self.reserve(Person::Parent, u32::MAX, u32::MAX)?;
         self.reserve(Person::Stranger, 10, 4)?;
         self.look(Person::Parent, 11)

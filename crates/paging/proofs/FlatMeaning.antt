@@ -22,7 +22,7 @@ use Rattle.paging.specs.Ranges.{processes, in-range, within, ruled-out}
 use Rattle.paging.specs.States.{by-states, entry-of, is-ready, made-ready}
 use Rattle.paging.specs.Window.{readied, unreadied, replaced}
 use Rattle.paging.specs.Word.{absent-word, state-of, storable, word-of}
-use Rattle.paging.proofs.Codec.{stored}
+use Rattle.paging.proofs.Exact.{stored}
 use Rattle.paging.proofs.Lifts.{lift-reserve, lift-release, lift-put}
 
 -- the state that each stored word means

@@ -1,5 +1,5 @@
 pub mod Tests
-pub mod Codec
+pub mod Exact
 pub mod Parts
 pub mod Windows
 pub mod Lifts

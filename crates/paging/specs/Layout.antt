@@ -17,6 +17,10 @@ write-bit = accessed-bit + 1
 abbrev pub kind-bit : ℕ
 kind-bit = write-bit + 1
 
+-- how many bits a word has
+abbrev pub word-bits : ℕ
+word-bits = kind-bit + 2
+
 -- the kind of a page that is ready and absent
 abbrev pub absent-kind : ℕ
 absent-kind = 1

@@ -4,13 +4,11 @@ use mathlib.Core.Bool.{cond}
 use mathlib.Core.List.{List}
 use Prim.Native.Nat.{ℕ, _<_}
 use lib.ListN.{length, getD}
-use Rattle.std.specs.Options.{valueOr}
 use Rattle.paging.specs.declared.page.Entry.{Entry}
 use Rattle.paging.specs.declared.page.PageState.{PageState}
-use Rattle.paging.specs.declared.page.PageState.the-variants.{Ready}
 use Rattle.paging.specs.Ranges.{within}
 use Rattle.paging.specs.States.{is-ready}
-use Rattle.paging.specs.Word.{absent-word, state-of, word-of}
+use Rattle.paging.specs.Word.{absent-word, entry-word, state-of}
 
 -- the state of page q
 abbrev pub window-state : List ℕ → ℕ → PageState
@@ -26,7 +24,7 @@ unreadied w = 0
 
 -- what put stores for any word
 abbrev pub replaced : Entry → ℕ → ℕ
-replaced e w = valueOr (word-of (Ready e)) 0
+replaced e w = entry-word e
 
 -- the words of the n pages from a, as far as there are any, became f of what they were, and no other changed
 pub record Rewrites (f : ℕ → ℕ) (a n : ℕ) (ws vs : List ℕ) : Type 0 where

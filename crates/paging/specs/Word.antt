@@ -5,7 +5,7 @@
 --     Exact               there and back is the identity, and no second word has the same meaning
 use mathlib.Core.Path.{_≡_}
 use mathlib.Core.Bool.{Bool, true, false, cond, _||_}
-use Prim.Native.Nat.{ℕ, _+_, _*_, _/_, _%_, _^_}
+use Prim.Native.Nat.{ℕ, _+_, _*_, _/_, _%_, _^_, _<_}
 use lib.Dec.{eqb, leb}
 use Rattle.std.specs.declared.option.Option.{Option}
 use Rattle.std.specs.declared.option.Option.the-variants.{None, Some}
@@ -13,7 +13,7 @@ use Rattle.paging.specs.declared.page.Entry.{Entry}
 use Rattle.paging.specs.declared.page.Entry.the-variants.{Absent, Present}
 use Rattle.paging.specs.declared.page.PageState.{PageState}
 use Rattle.paging.specs.declared.page.PageState.the-variants.{Unready, Ready}
-use Rattle.paging.specs.Layout.{frame-bits, accessed-bit, write-bit, kind-bit, absent-kind, present-kind, max-frame}
+use Rattle.paging.specs.Layout.{frame-bits, accessed-bit, write-bit, kind-bit, word-bits, absent-kind, present-kind, max-frame}
 
 -- a flag as the number in its bit
 abbrev pub bit : Bool → ℕ
@@ -28,12 +28,13 @@ bit-set w k = eqb (w / 2 ^ k % 2) 1
 abbrev pub absent-word : ℕ
 absent-word = absent-kind * 2 ^ kind-bit
 
--- the word of a page that is present
-abbrev pub present-word : ℕ → Bool → Bool → ℕ
-present-word frame write accessed =
+-- the word of a ready page with this entry
+abbrev pub entry-word : Entry → ℕ
+entry-word Absent = absent-word
+entry-word (Present frame write accessed) =
     present-kind * 2 ^ kind-bit + bit write * 2 ^ write-bit + bit accessed * 2 ^ accessed-bit + frame
 
--- whether an entry has a word
+-- whether the entry has a word: its frame is not too large
 abbrev pub storable : Entry → Bool
 storable Absent = true
 storable (Present frame write accessed) = leb frame max-frame
@@ -41,8 +42,7 @@ storable (Present frame write accessed) = leb frame max-frame
 -- the word of a state
 abbrev pub word-of : PageState → Option ℕ
 word-of Unready = Some 0
-word-of (Ready Absent) = Some absent-word
-word-of (Ready (Present frame write accessed)) = cond (leb frame max-frame) (Some (present-word frame write accessed)) None
+word-of (Ready e) = cond (storable e) (Some (entry-word e)) None
 
 -- the entry that a word of the present kind spells
 abbrev pub entry-in : ℕ → Entry
@@ -59,7 +59,11 @@ lawful-word w = eqb w 0 || (eqb w absent-word || eqb (w / 2 ^ kind-bit) present-
 -- the codec is exact: there is one lawful word for each state that has a word
 pub record Exact : Type 0 where
   -- from a state to its word and back
-  pub there : (s : PageState) (w : ℕ) → word-of s ≡ Some w → (state-of w ≡ s) × (lawful-word w ≡ true)
+  pub there : (s : PageState) (w : ℕ) → word-of s ≡ Some w → state-of w ≡ s
+  -- the word of a state is lawful
+  pub lawful : (s : PageState) (w : ℕ) → word-of s ≡ Some w → lawful-word w ≡ true
+  -- a lawful word has no more bits than there are
+  pub small : (w : ℕ) → lawful-word w ≡ true → w < 2 ^ word-bits
   -- from a lawful word to its state and back
   pub back : (w : ℕ) → lawful-word w ≡ true → word-of (state-of w) ≡ Some w
   -- no two lawful words mean the same

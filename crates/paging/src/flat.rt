@@ -9,6 +9,7 @@ ghost use Rattle.paging.specs.FlatLawful.{flat-lawful};
 ghost use Rattle.paging.specs.States.{is-ready};
 ghost use Rattle.paging.specs.Window.{readied, replaced, unreadied};
 ghost use Rattle.paging.specs.Word.{storable};
+use crate::codec::Word;
 use crate::page::Entry;
 use crate::page::Fault;
 use crate::page::PageState;
@@ -20,17 +21,17 @@ use crate::window;
 // A process's window has a word for each of its pages.
 const WINDOW: usize = 1024;
 
-// How many words the table takes.
-const WORDS: usize = WINDOW * PROCESSES as usize;
-
 #[derive(Drop)]
 pub struct FlatTable<'a> {
-    words: &'a mut [u16],
+    words: &'a mut [Word],
 }
 
 impl<'a> FlatTable<'a> {
+    // How many words the table takes.
+    pub const WORDS: usize = WINDOW * PROCESSES as usize;
+
     // A table over the memory as it stands: nothing is cleared.
-    pub fn new(words: &'a mut [u16]) -> FlatTable<'a>
+    pub fn new(words: &'a mut [Word]) -> FlatTable<'a>
         ensures lent { λ r. ⌜ r .words ≡ words .entry ⌝ }
         ensures means { λ r. ⌜ flat (now (r .words)) ≡ flat (now (words .entry)) ⌝ }
     {
@@ -95,17 +96,17 @@ pub impl<'a> PageTable for FlatTable<'a> as FlatPageTable {
 }
 
 // Where the process's window begins; none where the memory is too short or the process too large.
-fn window_start(words: &[u16], process: u32) -> Option<usize>
+fn window_start(words: &[Word], process: u32) -> Option<usize>
     ensures { λ r. ⌜ r ≡ window-start (now (words .entry)) process ⌝ }
 {
-    if words.len() < WORDS || process >= PROCESSES {
+    if words.len() < FlatTable::WORDS || process >= PROCESSES {
         return None;
     }
     Some(process as usize * WINDOW)
 }
 
 // Hands the process's window on. Without one the page is unready.
-fn look_in(words: &[u16], process: u32, page: u32) -> PageState
+fn look_in(words: &[Word], process: u32, page: u32) -> PageState
     ensures { λ r. ⌜ r ≡ flat-state (now (words .entry)) process page ⌝ }
 {
     let Some(start) = window_start(words, process) else {
@@ -115,7 +116,7 @@ fn look_in(words: &[u16], process: u32, page: u32) -> PageState
 }
 
 // Hands the process's window on. Without one there is no page to put an entry at.
-fn put_in(words: &mut [u16], process: u32, page: u32, entry: Entry) -> bool
+fn put_in(words: &mut [Word], process: u32, page: u32, entry: Entry) -> bool
     ensures done { λ r. ⌜ r ≡ (is-ready (flat-state (now (words .entry)) process page) && storable entry) ⌝ }
     ensures after { λ r. ⌜ When r (Wrote (replaced entry) process page 1 (now (words .entry)) (now (words .exit))) (now (words .exit) ≡ now (words .entry)) ⌝ }
 {
@@ -126,7 +127,7 @@ fn put_in(words: &mut [u16], process: u32, page: u32, entry: Entry) -> bool
 }
 
 // Hands the process's window on, unless the range is ruled out.
-fn reserve_in(words: &mut [u16], process: u32, first: u32, count: u32) -> bool
+fn reserve_in(words: &mut [Word], process: u32, first: u32, count: u32) -> bool
     ensures done { λ r. ⌜ r ≡ flat-fits (now (words .entry)) process first count ⌝ }
     ensures after { λ r. ⌜ When r (Wrote readied process first count (now (words .entry)) (now (words .exit))) (now (words .exit) ≡ now (words .entry)) ⌝ }
 {
@@ -141,7 +142,7 @@ fn reserve_in(words: &mut [u16], process: u32, first: u32, count: u32) -> bool
 }
 
 // Hands the process's window on. Without one there is nothing to release.
-fn release_in(words: &mut [u16], process: u32, first: u32, count: u32)
+fn release_in(words: &mut [Word], process: u32, first: u32, count: u32)
     ensures { λ _. ⌜ Wrote unreadied process first count (now (words .entry)) (now (words .exit)) ⌝ }
 {
     if let Some(start) = window_start(words, process) {

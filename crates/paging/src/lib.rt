@@ -1,11 +1,16 @@
 // Page tables: the entry of a page, the word that stores it, the interface that every table keeps, and the flat table.
+mod codec;
 mod flat;
 mod page;
 mod range;
 mod table;
 mod window;
-mod word;
 
+pub use codec::MAX_FRAME;
+pub use codec::Word;
+pub use codec::codec_is_exact;
+pub use codec::decode;
+pub use codec::encode;
 pub use flat::FlatPageTable;
 pub use flat::FlatTable;
 pub use page::Entry;
@@ -24,6 +29,3 @@ pub use page::PageStateEq;
 pub use page::PageStatePartialEq;
 pub use table::PROCESSES;
 pub use table::PageTable;
-pub use word::MAX_FRAME;
-pub use word::decode;
-pub use word::encode;

@@ -7,15 +7,16 @@ ghost use Rattle.std.specs.Orderings.{When};
 ghost use Rattle.paging.specs.States.{is-ready};
 ghost use Rattle.paging.specs.Window.{readied, replaced, Rewrites, unreadied, window-state};
 ghost use Rattle.paging.specs.Word.{storable};
+use crate::codec::READY_ABSENT;
+use crate::codec::UNREADY;
+use crate::codec::Word;
+use crate::codec::decode;
+use crate::codec::encode;
 use crate::page::Entry;
 use crate::page::PageState;
-use crate::word::READY_ABSENT;
-use crate::word::UNREADY;
-use crate::word::decode;
-use crate::word::encode;
 
 // The state of a page.
-pub(crate) fn look(window: &[u16], page: u32) -> PageState
+pub(crate) fn look(window: &[Word], page: u32) -> PageState
     ensures value { λ r. ⌜ r ≡ window-state (now (window .entry)) page ⌝ }
     ensures within { λ r. ⌜ (is-ready r ≡ true → page < length (now (window .entry))) ⌝ }
 {
@@ -26,7 +27,7 @@ pub(crate) fn look(window: &[u16], page: u32) -> PageState
 }
 
 // Replaces the entry of a ready page. False where the page is not ready or the frame is too large.
-pub(crate) fn put(window: &mut [u16], page: u32, entry: Entry) -> bool
+pub(crate) fn put(window: &mut [Word], page: u32, entry: Entry) -> bool
     ensures done { λ r. ⌜ r ≡ (is-ready (window-state (now (window .entry)) page) && storable entry) ⌝ }
     ensures after { λ r. ⌜ When r (Rewrites (replaced entry) page 1 (now (window .entry)) (now (window .exit))) (now (window .exit) ≡ now (window .entry)) ⌝ }
 {
@@ -41,7 +42,7 @@ pub(crate) fn put(window: &mut [u16], page: u32, entry: Entry) -> bool
 }
 
 // The word of a page once it is ready: it keeps its entry, and one that was not ready is absent.
-fn ready(word: u16) -> u16
+fn ready(word: Word) -> Word
     ensures { λ r. ⌜ r ≡ readied word ⌝ }
 {
     match decode(word) {
@@ -51,14 +52,14 @@ fn ready(word: u16) -> u16
 }
 
 // The end of a range, as far as the window goes.
-fn end_in(window: &[u16], first: u32, count: u32) -> usize
+fn end_in(window: &[Word], first: u32, count: u32) -> usize
     ensures { λ r. ⌜ r ≡ min (first + count) (length (now (window .entry))) ⌝ }
 {
     (first as usize + count as usize).min(window.len())
 }
 
 // Makes the pages of a range ready, as far as the window goes, and keeps their entries.
-pub(crate) fn reserve(window: &mut [u16], first: u32, count: u32)
+pub(crate) fn reserve(window: &mut [Word], first: u32, count: u32)
     ensures { λ _. ⌜ Rewrites readied first count (now (window .entry)) (now (window .exit)) ⌝ }
 {
     let end = end_in(window, first, count);
@@ -68,7 +69,7 @@ pub(crate) fn reserve(window: &mut [u16], first: u32, count: u32)
 }
 
 // Makes the pages of a range unready and absent, as far as the window goes.
-pub(crate) fn release(window: &mut [u16], first: u32, count: u32)
+pub(crate) fn release(window: &mut [Word], first: u32, count: u32)
     ensures { λ _. ⌜ Rewrites unreadied first count (now (window .entry)) (now (window .exit)) ⌝ }
 {
     let past = end_in(window, first, count);

@@ -1,4 +1,4 @@
-// The stored word: a page's state in 16 bits.
+// The stored word of a page's state, and what each word means.
 ghost use mathlib.Core.Path.{_≡_};
 ghost use Prim.Native.Nat.{_+_, _*_, _^_};
 ghost use Rattle.paging.specs.Layout.{accessed-bit, write-bit};
@@ -6,33 +6,36 @@ ghost use Rattle.paging.specs.Word.{bit, Exact, state-of, word-of};
 use crate::page::Entry;
 use crate::page::PageState;
 
+// A word as a table stores it.
+pub type Word = u16;
+
 // From the low end: the frame, the accessed bit, the write bit, and two bits for the kind of state.
-const FRAME_BITS: u16 = 12;
+const FRAME_BITS: Word = 12;
 
-const ACCESSED_BIT: u16 = FRAME_BITS;
+const ACCESSED_BIT: Word = FRAME_BITS;
 
-const WRITE_BIT: u16 = ACCESSED_BIT + 1;
+const WRITE_BIT: Word = ACCESSED_BIT + 1;
 
-const KIND_BIT: u16 = WRITE_BIT + 1;
+const KIND_BIT: Word = WRITE_BIT + 1;
 
 // The kinds: 0 is unready, and 3 has no use.
-const ABSENT: u16 = 1;
+const ABSENT: Word = 1;
 
-const PRESENT: u16 = 2;
+const PRESENT: Word = 2;
 
 // The words of the two states that map nothing.
-pub(crate) const UNREADY: u16 = 0;
+pub(crate) const UNREADY: Word = 0;
 
-pub(crate) const READY_ABSENT: u16 = ABSENT << KIND_BIT;
+pub(crate) const READY_ABSENT: Word = ABSENT << KIND_BIT;
 
 // How many frames an entry can name.
-const FRAMES: u16 = 1 << FRAME_BITS;
+const FRAMES: Word = 1 << FRAME_BITS;
 
 // The greatest frame that an entry can hold.
 pub const MAX_FRAME: u32 = FRAMES as u32 - 1;
 
 // The word of a state; none where the frame is too large for one.
-pub fn encode(state: PageState) -> Option<u16>
+pub fn encode(state: PageState) -> Option<Word>
     ensures { λ r. ⌜ r ≡ word-of state ⌝ }
 {
     match state {
@@ -48,13 +51,13 @@ pub fn encode(state: PageState) -> Option<u16>
             if frame > MAX_FRAME {
                 return None;
             }
-            Some((PRESENT << KIND_BIT) + flags(write, accessed) + frame as u16)
+            Some((PRESENT << KIND_BIT) + flags(write, accessed) + frame as Word)
         }
     }
 }
 
 // The two flags, each in its bit.
-fn flags(write: bool, accessed: bool) -> u16
+fn flags(write: bool, accessed: bool) -> Word
     ensures { λ r. ⌜ r ≡ bit write * 2 ^ write-bit + bit accessed * 2 ^ accessed-bit ⌝ }
 {
     match (write, accessed) {
@@ -66,7 +69,7 @@ fn flags(write: bool, accessed: bool) -> u16
 }
 
 // What a word means: a word that no state has counts as unready.
-pub fn decode(word: u16) -> PageState
+pub fn decode(word: Word) -> PageState
     ensures { λ r. ⌜ r ≡ state-of word ⌝ }
 {
     match word >> KIND_BIT {

@@ -1,23 +1,19 @@
 -- The stored word: there and back is the identity, and each state has one lawful word.
-use mathlib.Core.Path.{_≡_, refl, sym, ap, _∙_}
-use mathlib.Core.Bool.{Bool, true, false, cond, _||_}
+use mathlib.Core.Path.{_≡_, refl, ap}
+use mathlib.Core.Bool.{Bool, true, false, _||_}
 use mathlib.Core.Logic.{_⊎_, inl, inr, ⊎-elim}
-use Prim.Native.Nat.{ℕ, _+_, _*_, _/_, _%_, _^_, _<_, _≤_}
+use Prim.Native.Nat.{ℕ, _/_, _%_, _^_, _<_, _≤_}
 use native.Mathlib.Omega.{arith}
-use lib.Bits.{bitAnd, bitOr, or-shifted-r, and-mask}
 use lib.Dec.{eqb, leb}
-use mir.Val.{boolByte}
-use Rattle.std.proofs.shelf.Ways.{tells}
 use Rattle.std.proofs.shelf.Tests.{cond-true, or-cases, or-parts, eqb-true, leb-true}
-use Rattle.std.specs.Options.{valueOr}
-use Rattle.std.specs.declared.option.Option.{Option}
+use Rattle.std.proofs.shelf.Ways.{tells}
 use Rattle.std.specs.declared.option.Option.the-variants.{None, Some}
 use Rattle.paging.specs.declared.page.Entry.{Entry}
 use Rattle.paging.specs.declared.page.Entry.the-variants.{Absent, Present}
 use Rattle.paging.specs.declared.page.PageState.{PageState}
 use Rattle.paging.specs.declared.page.PageState.the-variants.{Unready, Ready}
-use Rattle.paging.specs.Layout.{frame-bits, accessed-bit, write-bit, kind-bit, absent-kind, present-kind, max-frame}
-use Rattle.paging.specs.Word.{bit, bit-set, absent-word, present-word, word-of, entry-in, state-of, lawful-word, storable, Exact}
+use Rattle.paging.specs.Layout.{frame-bits, accessed-bit, write-bit, kind-bit, word-bits, present-kind, max-frame}
+use Rattle.paging.specs.Word.{bit, bit-set, absent-word, entry-word, word-of, state-of, lawful-word, storable, Exact}
 use Rattle.paging.proofs.Tests.{let-through}
 
 -- a flag and the number in its bit
@@ -34,21 +30,28 @@ means-present n f w a k e x y =
     rw (no, yes) cc
 
 -- and it is the word of its entry
-respelled : (n : ℕ) → n / 2 ^ kind-bit ≡ present-kind → present-word (n % 2 ^ frame-bits) (bit-set n write-bit) (bit-set n accessed-bit) ≡ n
+respelled : (n : ℕ) → n / 2 ^ kind-bit ≡ present-kind → entry-word (Present (n % 2 ^ frame-bits) (bit-set n write-bit) (bit-set n accessed-bit)) ≡ n
 respelled n k = grind (arith, tells)
+
+-- the word that is stored for an entry means it
+pub stored : (e : Entry) → storable e ≡ true → state-of (entry-word e) ≡ Ready e
+stored Absent h = refl
+stored (Present f b a) h =
+    let fits : f ≤ max-frame = leb-true f max-frame h in
+    means-present (entry-word (Present f b a)) f b a (grind (arith, bit-tells b, bit-tells a)) (grind (arith, bit-tells b, bit-tells a))
+    (grind (arith, tells, bit-tells b, bit-tells a)) (grind (arith, tells, bit-tells b, bit-tells a))
+
+-- and is lawful
+stored-lawful : (e : Entry) → storable e ≡ true → lawful-word (entry-word e) ≡ true
+stored-lawful Absent h = refl
+stored-lawful (Present f b a) h = let fits : f ≤ max-frame = leb-true f max-frame h in grind (arith, tells, bit-tells b, bit-tells a)
 
 -- there and back from a state
 there : (s : PageState) (w : ℕ) → word-of s ≡ Some w → (state-of w ≡ s) × (lawful-word w ≡ true)
 there Unready w e = let z : 0 ≡ w = cc in rw (← z) (refl, refl)
-there (Ready Absent) w e = let z : absent-word ≡ w = cc in rw (← z) (refl, refl)
-there (Ready (Present f b a)) w e =
-    let fits : f ≤ max-frame = leb-true f max-frame (let-through (leb f max-frame) (present-word f b a) w e .0) in
-    let is : present-word f b a ≡ w = let-through (leb f max-frame) (present-word f b a) w e .1 in
-    let kind : w / 2 ^ kind-bit ≡ present-kind = grind (arith, bit-tells b, bit-tells a) in (
-      means-present w f b a kind (grind (arith, bit-tells b, bit-tells a)) (grind (arith, tells, bit-tells b, bit-tells a))
-          (grind (arith, tells, bit-tells b, bit-tells a)),
-      grind (arith, tells),
-    )
+there (Ready x) w e =
+    let parts = let-through (storable x) (entry-word x) w e in
+    rw (← parts .1) (stored x (parts .0), stored-lawful x (parts .0))
 
 -- there and back from a lawful word
 pub back : (w : ℕ) → lawful-word w ≡ true → word-of (state-of w) ≡ Some w
@@ -65,16 +68,13 @@ back w h =
 
 pub exact : Exact
 exact = record {
-  there = there;
+  there = λ s w e. there s w e .0;
+  lawful = λ s w e. there s w e .1;
+  small = λ w h. grind (arith, tells);
   back = back;
-  single = λ v w lv lw e. let x = back v lv in let y = back w lw in let z : word-of (state-of v) ≡ Some w = rw e y in cc;
-  other = λ w h. let parts = or-parts (eqb w 0) (eqb w absent-word || eqb (w / 2 ^ kind-bit) present-kind) h in
-      let kinds = or-parts (eqb w absent-word) (eqb (w / 2 ^ kind-bit) present-kind) (parts .1) in rw (kinds .0, kinds .1) refl;
+  single = λ v w lv lw e. let x = back v lv in let y : word-of (state-of v) ≡ Some w = rw e (back w lw) in cc;
+  other = λ w h.
+      let parts = or-parts (eqb w 0) (eqb w absent-word || eqb (w / 2 ^ kind-bit) present-kind) h in
+      let kinds = or-parts (eqb w absent-word) (eqb (w / 2 ^ kind-bit) present-kind) (parts .1) in
+      rw (kinds .0, kinds .1) refl;
 }
-
--- the word that is stored for an entry means it
-pub stored : (e : Entry) → storable e ≡ true → state-of (valueOr (word-of (Ready e)) 0) ≡ Ready e
-stored Absent h = refl
-stored (Present f b a) h =
-    let is : word-of (Ready (Present f b a)) ≡ Some (present-word f b a) = cond-true (leb f max-frame) (Some (present-word f b a)) None h in
-    ap (λ (o : Option ℕ). state-of (valueOr o 0)) is ∙ there (Ready (Present f b a)) (present-word f b a) is .0
