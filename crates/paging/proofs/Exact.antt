@@ -2,17 +2,17 @@
 use mathlib.Core.Path.{_≡_, refl, ap}
 use mathlib.Core.Bool.{Bool, true, false, _||_}
 use mathlib.Core.Logic.{_⊎_, inl, inr, ⊎-elim}
-use Prim.Native.Nat.{ℕ, _/_, _%_, _^_, _<_, _≤_}
+use Prim.Native.Nat.{ℕ, _/_, _%_, _^_, _≤_}
 use native.Mathlib.Omega.{arith}
 use lib.Dec.{eqb, leb}
-use Rattle.std.proofs.shelf.Tests.{cond-true, or-cases, or-parts, eqb-true, leb-true}
+use Rattle.std.proofs.shelf.Tests.{or-cases, or-parts, eqb-true, leb-true}
 use Rattle.std.proofs.shelf.Ways.{tells}
-use Rattle.std.specs.declared.option.Option.the-variants.{None, Some}
+use Rattle.std.specs.declared.option.Option.the-variants.{Some}
 use Rattle.paging.specs.declared.page.Entry.{Entry}
 use Rattle.paging.specs.declared.page.Entry.the-variants.{Absent, Present}
 use Rattle.paging.specs.declared.page.PageState.{PageState}
 use Rattle.paging.specs.declared.page.PageState.the-variants.{Unready, Ready}
-use Rattle.paging.specs.Layout.{frame-bits, accessed-bit, write-bit, kind-bit, word-bits, present-kind, max-frame}
+use Rattle.paging.specs.Layout.{frame-bits, accessed-bit, write-bit, kind-bit, present-kind, max-frame}
 use Rattle.paging.specs.Word.{bit, bit-set, absent-word, entry-word, word-of, state-of, lawful-word, storable, Exact}
 use Rattle.paging.proofs.Tests.{let-through}
 

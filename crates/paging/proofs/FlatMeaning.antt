@@ -1,27 +1,27 @@
 -- What the flat table writes into its memory is the effect on its meaning.
-use mathlib.Core.Path.{_≡_, refl, sym, ap, _∙_, fun-ext}
-use mathlib.Core.Bool.{Bool, true, false, cond, not, _&&_, _||_}
+use mathlib.Core.Path.{_≡_, refl, sym, ap, _∙_}
+use mathlib.Core.Bool.{Bool, true, false, cond, not, _&&_}
 use mathlib.Core.List.{List}
-use mathlib.Core.Logic.{_⊎_, inl, inr, ⊎-elim}
-use Prim.Native.Nat.{ℕ, _+_, _*_, _<_, _≤_}
+use mathlib.Core.Logic.{_⊎_, ⊎-elim}
+use Prim.Native.Nat.{ℕ}
 use native.Mathlib.Omega.{arith}
 use lib.Dec.{eqb, leb, ltb}
-use lib.ListN.{length, getD}
+use lib.ListN.{getD}
 use Rattle.std.specs.declared.option.Option.{Option}
 use Rattle.std.specs.declared.option.Option.the-variants.{None, Some}
 use Rattle.std.proofs.shelf.Tests.{and-parts, cases-bool, cond-true, ltb-true}
 use Rattle.std.proofs.shelf.Ways.{tells}
 use Rattle.paging.specs.declared.page.Entry.{Entry}
-use Rattle.paging.specs.declared.page.Entry.the-variants.{Absent, Present}
 use Rattle.paging.specs.declared.page.Fault.{Fault}
 use Rattle.paging.specs.declared.page.PageState.{PageState}
 use Rattle.paging.specs.declared.page.PageState.the-variants.{Unready, Ready}
 use Rattle.paging.specs.Effects.{Reserved, Releases, Replaced}
 use Rattle.paging.specs.Flat.{flat, flat-fault, flat-fits, flat-pages, flat-state, flat-words, has-word, place, whole, Wrote}
-use Rattle.paging.specs.Ranges.{processes, in-range, within, ruled-out}
-use Rattle.paging.specs.States.{by-states, entry-of, is-ready, made-ready}
+use Rattle.paging.specs.FlatLawful.{ready-word}
+use Rattle.paging.specs.Ranges.{processes, in-range, ruled-out}
+use Rattle.paging.specs.States.{is-ready, made-ready}
 use Rattle.paging.specs.Window.{readied, unreadied, replaced}
-use Rattle.paging.specs.Word.{absent-word, state-of, storable, word-of}
+use Rattle.paging.specs.Word.{absent-word, state-of, storable}
 use Rattle.paging.proofs.Exact.{stored}
 use Rattle.paging.proofs.Lifts.{lift-reserve, lift-release, lift-put}
 
@@ -75,14 +75,6 @@ in-table false false x y s h k = refl
 fit-words : (p a n : ℕ) (ws : List ℕ) → flat-fits ws p a n ≡ true → (r q : ℕ) → in-range p a n r q ≡ true → has-word ws r q ≡ false → ⊥
 fit-words p a n ws fits r q inside none = grind (arith, tells)
 
--- and so does a ready page
-ready-word : (p q : ℕ) (ws : List ℕ) → is-ready (flat-state ws p q) ≡ true → has-word ws p q ≡ true
-ready-word p q ws h = ready-test (has-word ws p q) (state-of (getD ws (place p q) 0)) h
-  where
-    ready-test : (b : Bool) (s : PageState) → is-ready (cond b s Unready) ≡ true → b ≡ true
-    ready-test true s h = refl
-    ready-test false s h = h
-
 module _ (p a n : ℕ) (ws vs : List ℕ) where
   pub flat-reserved : flat-fits ws p a n ≡ true → Wrote readied p a n ws vs → Reserved (flat ws) p a n (flat vs)
   flat-reserved fits w =
@@ -102,7 +94,7 @@ pub flat-replaced : (e : Entry) (p q : ℕ) (ws vs : List ℕ) → (is-ready (fl
     → Replaced (flat ws) p q e (flat vs)
 flat-replaced e p q ws vs can w =
     let parts = and-parts (is-ready (flat-state ws p q)) (storable e) can in
-    let has : has-word ws p q ≡ true = ready-word p q ws (parts .0) in
+    let has : has-word ws p q ≡ true = ready-word ws p q (parts .0) in
     lift-put (flat-state ws) (flat-state vs) (flat-fault ws) (flat-fault vs) p q e can (same-faults (replaced e) p q 1 ws vs w)
     (λ r s.
     let one : in-range p q 1 r s ≡ (eqb r p && eqb s q) = grind (arith, tells) in

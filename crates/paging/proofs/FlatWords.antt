@@ -1,18 +1,18 @@
 -- A change of one process's window, seen in the flat table's whole memory.
-use mathlib.Core.Path.{_≡_, refl, sym, ap, _∙_}
+use mathlib.Core.Path.{_≡_, sym, ap, _∙_}
 use mathlib.Core.Bool.{Bool, true, false, cond, _&&_}
 use mathlib.Core.List.{List}
-use mathlib.Core.Logic.{_⊎_, inl, inr, ⊎-elim}
+use mathlib.Core.Logic.{_⊎_, ⊎-elim}
 use Prim.Native.Nat.{ℕ, _+_, _-_, _*_, _<_, _≤_}
 use native.Mathlib.Omega.{arith}
 use borrow.Rule.Slice.PartMut.{putMid}
-use lib.Dec.{eqb, leb, ltb}
+use lib.Dec.{ltb}
 use lib.ListN.{length, getD, take, drop}
 use Rattle.std.specs.declared.option.Option.the-variants.{Some}
 use Rattle.std.specs.Orderings.{When}
 use Rattle.std.proofs.shelf.Tests.{cases-lt, cases-order, cond-false, cond-true}
 use Rattle.std.proofs.shelf.Ways.{tells}
-use Rattle.paging.specs.Flat.{flat-fits, flat-pages, flat-words, flat-state, has-word, place, whole, window-start, Wrote}
+use Rattle.paging.specs.Flat.{flat-fits, flat-pages, flat-state, has-word, place, whole, window-start, Wrote}
 use Rattle.paging.specs.Ranges.{processes, in-range, ruled-out, within}
 use Rattle.paging.specs.Window.{Rewrites, window-state}
 use Rattle.paging.specs.Word.{state-of}

@@ -1,13 +1,12 @@
 -- A part of a list, lent and given back changed: what stands where.
-use mathlib.Core.Path.{_≡_, refl, sym, ap, _∙_}
+use mathlib.Core.Path.{_≡_, ap, _∙_}
 use mathlib.Core.List.{List, _++_}
-use mathlib.Core.Logic.{_⊎_, inl, inr, ⊎-elim}
 use Prim.Native.Nat.{ℕ, _+_, _-_, _<_, _≤_}
 use native.Mathlib.Omega.{arith}
 use borrow.Author.Needs.{needs}
 use borrow.Rule.Slice.PartMut.{putMid}
 use lib.ListN.{length, getD, take, drop}
-use Rattle.std.proofs.shelf.Lists.{places, take-append-drop, getD-take, getD-drop, length-take-le, length-drop, length-append}
+use Rattle.std.proofs.shelf.Lists.{places, take-append-drop, getD-take, getD-drop, length-take-le, length-drop}
 
 module _ (s k : ℕ) (ws : List ℕ) (fits : s + k ≤ length ws) where
   pub part-length : length (take k (drop s ws)) ≡ k
