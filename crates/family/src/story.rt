@@ -26,16 +26,16 @@ fn entry(frame: u32, write: bool, accessed: bool) -> Entry
     }
 }
 
-// The stranger is no process of any table.
+// Who acts: the parent, its child, or a stranger that is no process of any table.
 #[derive(Clone, Copy)]
-pub enum Person {
+enum Person {
     Parent,
     Child,
     Stranger,
 }
 
 impl Person {
-    pub fn process(self) -> u32
+    fn process(self) -> u32
         ensures { λ r. ⌜ r ≡ number self ⌝ }
     {
         match self {
@@ -46,7 +46,7 @@ impl Person {
     }
 }
 
-pub impl fmt::Display for Person as PersonDisplay {
+impl fmt::Display for Person as PersonDisplay {
     fn fmt<W: fmt::Write>(&self, f: &mut fmt::Formatter<W>) -> fmt::Result {
         match self {
             Person::Parent => write!(f, "parent"),
@@ -64,7 +64,7 @@ pub struct Story<'a, P: PageTable> {
 }
 
 impl<'a, P: PageTable> Story<'a, P> {
-    pub fn new(rt: &'a LibcRuntime, table: P) -> Story<'a, P>
+    pub fn new(rt: &'a LibcRuntime, table: P) -> Self
         ensures { λ r. ⌜ r .table ≡ table ⌝ }
     {
         Story { rt, table }
@@ -95,7 +95,8 @@ impl<'a, P: PageTable> Story<'a, P> {
         self.look(Person::Parent, 12)?;
         self.look(Person::Parent, 13)?;
         self.put(Person::Parent, 12, Entry::Absent)?;
-        self.look(Person::Parent, 12)
+        self.look(Person::Parent, 12)?;
+        self.put(Person::Parent, 12, entry(5, false, true))
     }
 
     // What a table refuses, and the page that it names.

@@ -13,8 +13,8 @@ use Rattle.paging.specs.declared.page.Entry.the-variants.{Absent, Present}
 use Rattle.paging.specs.declared.page.PageState.{PageState}
 use Rattle.paging.specs.declared.page.PageState.the-variants.{Unready, Ready}
 use Rattle.paging.specs.Layout.{frame-bits, accessed-bit, write-bit, kind-bit, present-kind, max-frame}
-use Rattle.paging.specs.Word.{bit, bit-set, absent-word, entry-word, word-of, state-of, lawful-word, storable, Exact}
-use Rattle.paging.proofs.Tests.{let-through}
+use Rattle.paging.specs.Word.{bit, bit-set, absent-word, entry-in, entry-word, word-of, state-of, lawful-word, storable, unready-word, Exact}
+use Rattle.paging.proofs.LetThrough.{let-through}
 
 -- a flag and the number in its bit
 bit-tells : (b : Bool) → ((b ≡ true) × (bit b ≡ 1)) ⊎ ((b ≡ false) × (bit b ≡ 0))
@@ -30,7 +30,7 @@ means-present n f w a k e x y =
     rw (no, yes) cc
 
 -- and it is the word of its entry
-respelled : (n : ℕ) → n / 2 ^ kind-bit ≡ present-kind → entry-word (Present (n % 2 ^ frame-bits) (bit-set n write-bit) (bit-set n accessed-bit)) ≡ n
+respelled : (n : ℕ) → n / 2 ^ kind-bit ≡ present-kind → entry-word (entry-in n) ≡ n
 respelled n k = grind (arith, tells)
 
 -- the word that is stored for an entry means it
@@ -48,15 +48,15 @@ stored-lawful (Present f b a) h = let fits : f ≤ max-frame = leb-true f max-fr
 
 -- there and back from a state
 there : (s : PageState) (w : ℕ) → word-of s ≡ Some w → (state-of w ≡ s) × (lawful-word w ≡ true)
-there Unready w e = let z : 0 ≡ w = cc in rw (← z) (refl, refl)
+there Unready w e = let z : unready-word ≡ w = cc in rw (← z) (refl, refl)
 there (Ready x) w e =
     let parts = let-through (storable x) (entry-word x) w e in
     rw (← parts .1) (stored x (parts .0), stored-lawful x (parts .0))
 
 -- there and back from a lawful word
-pub back : (w : ℕ) → lawful-word w ≡ true → word-of (state-of w) ≡ Some w
+back : (w : ℕ) → lawful-word w ≡ true → word-of (state-of w) ≡ Some w
 back w h =
-    ⊎-elim (λ z. rw (eqb-true w 0 z) refl)
+    ⊎-elim (λ z. rw (eqb-true w unready-word z) refl)
     (λ m. ⊎-elim (λ z. rw (eqb-true w absent-word z) refl)
     (λ z.
     let kind : w / 2 ^ kind-bit ≡ present-kind = eqb-true (w / 2 ^ kind-bit) present-kind z in
@@ -64,7 +64,7 @@ back w h =
     rw (means-present w (w % 2 ^ frame-bits) (bit-set w write-bit) (bit-set w accessed-bit) kind refl refl refl, fits)
     (ap (λ (n : ℕ). Some n) (respelled w kind)))
     (or-cases (eqb w absent-word) (eqb (w / 2 ^ kind-bit) present-kind) m))
-    (or-cases (eqb w 0) (eqb w absent-word || eqb (w / 2 ^ kind-bit) present-kind) h)
+    (or-cases (eqb w unready-word) (eqb w absent-word || eqb (w / 2 ^ kind-bit) present-kind) h)
 
 pub exact : Exact
 exact = record {
@@ -74,7 +74,7 @@ exact = record {
   back = back;
   single = λ v w lv lw e. let x = back v lv in let y : word-of (state-of v) ≡ Some w = rw e (back w lw) in cc;
   other = λ w h.
-      let parts = or-parts (eqb w 0) (eqb w absent-word || eqb (w / 2 ^ kind-bit) present-kind) h in
+      let parts = or-parts (eqb w unready-word) (eqb w absent-word || eqb (w / 2 ^ kind-bit) present-kind) h in
       let kinds = or-parts (eqb w absent-word) (eqb (w / 2 ^ kind-bit) present-kind) (parts .1) in
       rw (kinds .0, kinds .1) refl;
 }

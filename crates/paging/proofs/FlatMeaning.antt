@@ -2,7 +2,7 @@
 use mathlib.Core.Path.{_≡_, refl, sym, ap, _∙_}
 use mathlib.Core.Bool.{Bool, true, false, cond, not, _&&_}
 use mathlib.Core.List.{List}
-use mathlib.Core.Logic.{_⊎_, ⊎-elim}
+use mathlib.Core.Logic.{⊎-elim}
 use Prim.Native.Nat.{ℕ}
 use native.Mathlib.Omega.{arith}
 use lib.Dec.{eqb, leb, ltb}
@@ -19,13 +19,13 @@ use Rattle.paging.specs.Effects.{Reserved, Releases, Replaced}
 use Rattle.paging.specs.Flat.{flat, flat-fault, flat-fits, flat-pages, flat-state, flat-words, has-word, place, whole, Wrote}
 use Rattle.paging.specs.FlatLawful.{ready-word}
 use Rattle.paging.specs.Ranges.{processes, in-range, ruled-out}
-use Rattle.paging.specs.States.{is-ready, made-ready}
+use Rattle.paging.specs.States.{is-ready}
 use Rattle.paging.specs.Window.{readied, unreadied, replaced}
 use Rattle.paging.specs.Word.{absent-word, state-of, storable}
 use Rattle.paging.proofs.Exact.{stored}
-use Rattle.paging.proofs.Lifts.{lift-reserve, lift-release, lift-put}
+use Rattle.paging.proofs.Lifts.{lift-reserve, lift-release, lift-put, made-ready}
 
--- the state that each stored word means
+-- the word that reserve stores means the state made ready
 readied-means : (w : ℕ) → state-of (readied w) ≡ made-ready (state-of w)
 readied-means w = by-state (state-of w) refl
   where
@@ -43,7 +43,7 @@ module _ (f : ℕ → ℕ) (p a n : ℕ) (ws vs : List ℕ) (w : Wrote f p a n w
   same-words : (r q : ℕ) → has-word vs r q ≡ has-word ws r q
   same-words r q = ap (λ (k : ℕ). leb flat-words k && (ltb r processes && ltb q flat-pages)) (w .long)
 
-  pub same-faults : flat-fault vs ≡ flat-fault ws
+  same-faults : flat-fault vs ≡ flat-fault ws
   same-faults =
       let by-length : ℕ → ℕ → ℕ → ℕ → Option Fault =
       λ k p a n. cond (leb flat-words k && not (ruled-out flat-pages p a n)) None (Some (record { process = p; page = a })) in

@@ -2,8 +2,8 @@
 use mathlib.Core.Path.{_≡_, sym, ap, _∙_}
 use mathlib.Core.Bool.{Bool, true, false, cond, _&&_}
 use mathlib.Core.List.{List}
-use mathlib.Core.Logic.{_⊎_, ⊎-elim}
-use Prim.Native.Nat.{ℕ, _+_, _-_, _*_, _<_, _≤_}
+use mathlib.Core.Logic.{⊎-elim}
+use Prim.Native.Nat.{ℕ, _+_, _*_, _<_, _≤_}
 use native.Mathlib.Omega.{arith}
 use borrow.Rule.Slice.PartMut.{putMid}
 use lib.Dec.{ltb}
@@ -17,7 +17,7 @@ use Rattle.paging.specs.Ranges.{processes, in-range, ruled-out, within}
 use Rattle.paging.specs.Window.{Rewrites, window-state}
 use Rattle.paging.specs.Word.{state-of}
 use Rattle.paging.specs.declared.page.PageState.the-variants.{Unready}
-use Rattle.paging.proofs.Tests.{let-through}
+use Rattle.paging.proofs.LetThrough.{let-through}
 use Rattle.paging.proofs.Windows.{past-window}
 use Rattle.paging.proofs.Parts.{part-length, part-at, spliced-same, spliced-length, spliced-inside, spliced-below, spliced-above}
 

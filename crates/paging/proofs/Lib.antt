@@ -1,4 +1,4 @@
-pub mod Tests
+pub mod LetThrough
 pub mod Exact
 pub mod Parts
 pub mod Windows

@@ -13,13 +13,20 @@ accessed-bit = frame-bits
 abbrev pub write-bit : ℕ
 write-bit = accessed-bit + 1
 
--- the two highest bits are the kind of state, and this is the lower of them
+-- the kind of state has the bits from this one on
 abbrev pub kind-bit : ℕ
 kind-bit = write-bit + 1
 
+abbrev pub kind-bits : ℕ
+kind-bits = 2
+
 -- how many bits a word has
 abbrev pub word-bits : ℕ
-word-bits = kind-bit + 2
+word-bits = kind-bit + kind-bits
+
+-- the kind of a page that is not ready
+abbrev pub unready-kind : ℕ
+unready-kind = 0
 
 -- the kind of a page that is ready and absent
 abbrev pub absent-kind : ℕ

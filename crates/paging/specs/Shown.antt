@@ -2,7 +2,6 @@
 use mathlib.Core.Bool.{Bool, cond}
 use mathlib.Core.List.{List, _++_}
 use Prim.Native.Nat.{ℕ}
-use Prim.Native.String.{String}
 use lib.Chars.{codes}
 use Rattle.std.specs.Written.{decimal}
 use Rattle.paging.specs.declared.page.Entry.{Entry}
@@ -10,14 +9,14 @@ use Rattle.paging.specs.declared.page.Entry.the-variants.{Absent, Present}
 use Rattle.paging.specs.declared.page.Fault.{Fault}
 
 -- the letter where the flag is set, else a dash
-abbrev pub letter : Bool → String → List ℕ
-letter set name = cond set (codes name) (codes "-")
+abbrev pub flag-text : Bool → List ℕ → List ℕ
+flag-text set name = cond set name (codes "-")
 
 -- `absent`, or the frame and the letters of the bits that are set, as `3:wa` and `3:--`
 abbrev pub entry-text : Entry → List ℕ
 entry-text Absent = codes "absent"
 entry-text (Present frame write accessed) =
-    decimal frame ++ (codes ":" ++ (letter write "w" ++ letter accessed "a"))
+    decimal frame ++ (codes ":" ++ (flag-text write (codes "w") ++ flag-text accessed (codes "a")))
 
 -- the process and the page, as `0:11`
 abbrev pub fault-text : Fault → List ℕ

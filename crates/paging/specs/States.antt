@@ -20,10 +20,6 @@ abbrev pub is-ready : PageState → Bool
 is-ready Unready = false
 is-ready (Ready e) = true
 
--- the state of a page once it is ready: it keeps its entry
-abbrev pub made-ready : PageState → PageState
-made-ready s = Ready (entry-of s)
-
 -- the table whose pages have these states and whose ranges have these faults
 abbrev pub by-states : (ℕ → ℕ → PageState) → (ℕ → ℕ → ℕ → Option Fault) → Meaning
 by-states states faults =

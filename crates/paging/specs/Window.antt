@@ -8,7 +8,7 @@ use Rattle.paging.specs.declared.page.Entry.{Entry}
 use Rattle.paging.specs.declared.page.PageState.{PageState}
 use Rattle.paging.specs.Ranges.{within}
 use Rattle.paging.specs.States.{is-ready}
-use Rattle.paging.specs.Word.{absent-word, entry-word, state-of}
+use Rattle.paging.specs.Word.{absent-word, entry-word, state-of, unready-word}
 
 -- the state of page q
 abbrev pub window-state : List ℕ → ℕ → PageState
@@ -20,7 +20,7 @@ readied w = cond (is-ready (state-of w)) w absent-word
 
 -- what release stores for any word
 abbrev pub unreadied : ℕ → ℕ
-unreadied w = 0
+unreadied w = unready-word
 
 -- what put stores for any word
 abbrev pub replaced : Entry → ℕ → ℕ

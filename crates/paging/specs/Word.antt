@@ -13,7 +13,7 @@ use Rattle.paging.specs.declared.page.Entry.{Entry}
 use Rattle.paging.specs.declared.page.Entry.the-variants.{Absent, Present}
 use Rattle.paging.specs.declared.page.PageState.{PageState}
 use Rattle.paging.specs.declared.page.PageState.the-variants.{Unready, Ready}
-use Rattle.paging.specs.Layout.{frame-bits, accessed-bit, write-bit, kind-bit, word-bits, absent-kind, present-kind, max-frame}
+use Rattle.paging.specs.Layout.{frame-bits, accessed-bit, write-bit, kind-bit, word-bits, unready-kind, absent-kind, present-kind, max-frame}
 
 -- a flag as the number in its bit
 abbrev pub bit : Bool → ℕ
@@ -23,6 +23,10 @@ bit false = 0
 -- whether bit k of w is set
 abbrev pub bit-set : ℕ → ℕ → Bool
 bit-set w k = eqb (w / 2 ^ k % 2) 1
+
+-- the word of a page that is not ready
+abbrev pub unready-word : ℕ
+unready-word = unready-kind * 2 ^ kind-bit
 
 -- the word of a page that is ready and absent
 abbrev pub absent-word : ℕ
@@ -41,7 +45,7 @@ storable (Present frame write accessed) = leb frame max-frame
 
 -- the word of a state
 abbrev pub word-of : PageState → Option ℕ
-word-of Unready = Some 0
+word-of Unready = Some unready-word
 word-of (Ready e) = cond (storable e) (Some (entry-word e)) None
 
 -- the entry that a word of the present kind spells
@@ -54,7 +58,7 @@ state-of w = cond (eqb w absent-word) (Ready Absent) (cond (eqb (w / 2 ^ kind-bi
 
 -- the words that states have: a word of the first two kinds has all its other bits 0
 abbrev pub lawful-word : ℕ → Bool
-lawful-word w = eqb w 0 || (eqb w absent-word || eqb (w / 2 ^ kind-bit) present-kind)
+lawful-word w = eqb w unready-word || (eqb w absent-word || eqb (w / 2 ^ kind-bit) present-kind)
 
 -- the codec is exact: there is one lawful word for each state that has a word
 pub record Exact : Type 0 where

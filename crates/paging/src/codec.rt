@@ -1,8 +1,6 @@
 // The stored word of a page's state, and what each word means.
 ghost use mathlib.Core.Path.{_≡_};
-ghost use Prim.Native.Nat.{_+_, _*_, _^_};
-ghost use Rattle.paging.specs.Layout.{accessed-bit, write-bit};
-ghost use Rattle.paging.specs.Word.{bit, Exact, state-of, word-of};
+ghost use Rattle.paging.specs.Word.{Exact, state-of, word-of};
 use crate::page::Entry;
 use crate::page::PageState;
 
@@ -10,13 +8,13 @@ use crate::page::PageState;
 pub type Word = u16;
 
 // From the low end: the frame, the accessed bit, the write bit, and two bits for the kind of state.
-const FRAME_BITS: Word = 12;
+const FRAME_BITS: u32 = 12;
 
-const ACCESSED_BIT: Word = FRAME_BITS;
+const ACCESSED_BIT: u32 = FRAME_BITS;
 
-const WRITE_BIT: Word = ACCESSED_BIT + 1;
+const WRITE_BIT: u32 = ACCESSED_BIT + 1;
 
-const KIND_BIT: Word = WRITE_BIT + 1;
+const KIND_BIT: u32 = WRITE_BIT + 1;
 
 // The kinds: 0 is unready, and 3 has no use.
 const ABSENT: Word = 1;
@@ -51,20 +49,9 @@ pub fn encode(state: PageState) -> Option<Word>
             if frame > MAX_FRAME {
                 return None;
             }
-            Some((PRESENT << KIND_BIT) + flags(write, accessed) + frame as Word)
+            let flags = (Word::from(write) << WRITE_BIT) + (Word::from(accessed) << ACCESSED_BIT);
+            Some((PRESENT << KIND_BIT) + flags + frame as Word)
         }
-    }
-}
-
-// The two flags, each in its bit.
-fn flags(write: bool, accessed: bool) -> Word
-    ensures { λ r. ⌜ r ≡ bit write * 2 ^ write-bit + bit accessed * 2 ^ accessed-bit ⌝ }
-{
-    match (write, accessed) {
-        (false, false) => 0,
-        (false, true) => 1 << ACCESSED_BIT,
-        (true, false) => 1 << WRITE_BIT,
-        (true, true) => (1 << WRITE_BIT) + (1 << ACCESSED_BIT),
     }
 }
 

@@ -1,14 +1,11 @@
 // The flat table: a word for each page of each process, in memory that its owner hands over.
-ghost use mathlib.Core.Bool.{_&&_};
 ghost use mathlib.Core.Path.{_≡_};
 ghost use Rattle.std.specs.Orderings.{When};
 ghost use denote.Ref.{name, now};
-ghost use Rattle.paging.specs.Effects.{Puts, Releases, Reserves};
+ghost use Rattle.paging.specs.Effects.{can-put, Puts, Releases, Reserves};
 ghost use Rattle.paging.specs.Flat.{flat, flat-fits, flat-pages, flat-state, window-start, Wrote, WroteIf};
 ghost use Rattle.paging.specs.FlatLawful.{flat-lawful};
-ghost use Rattle.paging.specs.States.{is-ready};
 ghost use Rattle.paging.specs.Window.{readied, replaced, unreadied};
-ghost use Rattle.paging.specs.Word.{storable};
 use crate::codec::Word;
 use crate::page::Entry;
 use crate::page::Fault;
@@ -21,6 +18,7 @@ use crate::window;
 // A process's window has a word for each of its pages.
 const WINDOW: usize = 1024;
 
+// A page table in lent memory. The memory is its owner's again when the table is let go.
 #[derive(Drop)]
 pub struct FlatTable<'a> {
     words: &'a mut [Word],
@@ -31,7 +29,7 @@ impl<'a> FlatTable<'a> {
     pub const WORDS: usize = WINDOW * PROCESSES as usize;
 
     // A table over the memory as it stands: nothing is cleared.
-    pub fn new(words: &'a mut [Word]) -> FlatTable<'a>
+    pub fn new(words: &'a mut [Word]) -> Self
         ensures lent { λ r. ⌜ r .words ≡ words .entry ⌝ }
         ensures means { λ r. ⌜ flat (now (r .words)) ≡ flat (now (words .entry)) ⌝ }
     {
@@ -117,7 +115,7 @@ fn look_in(words: &[Word], process: u32, page: u32) -> PageState
 
 // Hands the process's window on. Without one there is no page to put an entry at.
 fn put_in(words: &mut [Word], process: u32, page: u32, entry: Entry) -> bool
-    ensures done { λ r. ⌜ r ≡ (is-ready (flat-state (now (words .entry)) process page) && storable entry) ⌝ }
+    ensures done { λ r. ⌜ r ≡ can-put (flat (now (words .entry))) process page entry ⌝ }
     ensures after { λ r. ⌜ When r (Wrote (replaced entry) process page 1 (now (words .entry)) (now (words .exit))) (now (words .exit) ≡ now (words .entry)) ⌝ }
 {
     let Some(start) = window_start(words, process) else {

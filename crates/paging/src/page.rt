@@ -1,9 +1,7 @@
 // What a page table says of a page.
-ghost use mathlib.Core.Bool.{cond};
 ghost use mathlib.Core.Path.{_≡_};
-ghost use lib.Chars.{codes};
 ghost use Rattle.std.specs.declared.option.Option.the-variants.{Some};
-ghost use Rattle.paging.specs.Shown.{entry-text, fault-text};
+ghost use Rattle.paging.specs.Shown.{entry-text, fault-text, flag-text};
 use std::fmt;
 
 // What a page maps: nothing, or a frame with its two bits.
@@ -33,7 +31,7 @@ pub struct Fault {
 
 // The letter where the flag is set, else a dash.
 fn letter(set: bool, name: &str) -> &str
-    ensures { λ r. ⌜ now r ≡ cond set (now (name .entry)) (codes "-") ⌝ }
+    ensures { λ r. ⌜ now r ≡ flag-text set (now (name .entry)) ⌝ }
 {
     if set { name } else { "-" }
 }
@@ -61,8 +59,6 @@ pub impl fmt::Display for Fault as FaultDisplay {
     ghost shown = { λ f. Some (fault-text f) };
 
     fn fmt<W: fmt::Write>(&self, f: &mut fmt::Formatter<W>) -> fmt::Result {
-        let process = self.process;
-        let page = self.page;
-        write!(f, "{process}:{page}")
+        write!(f, "{}:{}", self.process, self.page)
     }
 }

@@ -14,13 +14,16 @@ pub trait PageTable {
     // The most pages of a process.
     const PAGES: u32;
 
+    // The same, for contracts, which cannot name a constant of a bound.
     ghost pages: { ℕ };
 
+    // What a table means: its entries, its ready pages and which ranges fit.
     ghost meaning: { Self → Meaning };
 
+    // The laws, of every table.
     ghost lawful: { (t : Self) → Lawful pages (meaning t) };
 
-    // PAGES, for contracts, which cannot name a constant of a bound.
+    // PAGES, with a contract.
     fn most_pages() -> u32
         ensures { λ r. ⌜ r ≡ pages ⌝ };
 

@@ -55,7 +55,8 @@ fn ready(word: Word) -> Word
 fn end_in(window: &[Word], first: u32, count: u32) -> usize
     ensures { λ r. ⌜ r ≡ min (first + count) (length (now (window .entry))) ⌝ }
 {
-    (first as usize + count as usize).min(window.len())
+    let first = (first as usize).min(window.len());
+    first + (count as usize).min(window.len() - first)
 }
 
 // Makes the pages of a range ready, as far as the window goes, and keeps their entries.

@@ -10,9 +10,10 @@ use paging::FaultPartialEq;
 use paging::FlatPageTable;
 use paging::FlatTable;
 use paging::PageTable;
+use paging::Word;
 use std::test::*;
 
-const SOME: Entry = Entry::Present {
+const FRAME_7: Entry = Entry::Present {
     frame: 7,
     write: true,
     accessed: false,
@@ -23,7 +24,7 @@ fn at(process: u32, page: u32) -> Result<(), Fault> {
 }
 
 // The owner of the memory knows what was written once the table is let go.
-fn lend(memory: &mut [u16], entry: Entry) -> Result<(), Fault>
+fn lend(memory: &mut [Word], entry: Entry) -> Result<(), Fault>
     ensures { λ r. ⌜ WroteIf r (replaced entry) 1 5 1 (now (memory .entry)) (now (memory .exit)) ⌝ }
 {
     let mut table = FlatTable::new(memory);
@@ -32,15 +33,15 @@ fn lend(memory: &mut [u16], entry: Entry) -> Result<(), Fault>
 
 #[test]
 fn last_process_and_page(rt: LibcRuntime) -> Result<(), Fail> {
-    let mut memory = vec![in rt.alloc(); 0u16; 32768]?;
+    let mut memory = vec![in rt.alloc(); 0 as Word; 32768]?;
     let mut table = FlatTable::new(memory.as_mut_slice());
     check_eq(table.reserve(31, 1023, 1), Ok(()))?;
-    check_eq(table.put(31, 1023, SOME), Ok(()))?;
-    check_eq(table.look(31, 1023), SOME)?;
+    check_eq(table.put(31, 1023, FRAME_7), Ok(()))?;
+    check_eq(table.look(31, 1023), FRAME_7)?;
     check_eq(table.look(31, 1024), Entry::Absent)?;
     check_eq(table.look(32, 1023), Entry::Absent)?;
-    check_eq(table.put(31, 1024, SOME), at(31, 1024))?;
-    check_eq(table.put(32, 1023, SOME), at(32, 1023))?;
+    check_eq(table.put(31, 1024, FRAME_7), at(31, 1024))?;
+    check_eq(table.put(32, 1023, FRAME_7), at(32, 1023))?;
     check_eq(table.reserve(31, 1024, 1), at(31, 1024))?;
     check_eq(table.reserve(31, 1023, 2), at(31, 1023))?;
     check_eq(table.reserve(32, 0, 1), at(32, 0))
@@ -48,7 +49,7 @@ fn last_process_and_page(rt: LibcRuntime) -> Result<(), Fail> {
 
 #[test]
 fn ranges_that_never_fit(rt: LibcRuntime) -> Result<(), Fail> {
-    let mut memory = vec![in rt.alloc(); 0u16; 32768]?;
+    let mut memory = vec![in rt.alloc(); 0 as Word; 32768]?;
     let mut table = FlatTable::new(memory.as_mut_slice());
     check_eq(table.reserve(0, 5, 0), at(0, 5))?;
     check_eq(table.reserve(0, 0, 1025), at(0, 0))?;
@@ -62,39 +63,64 @@ fn ranges_that_never_fit(rt: LibcRuntime) -> Result<(), Fail> {
 }
 
 #[test]
+fn pages_past_every_table(rt: LibcRuntime) -> Result<(), Fail> {
+    let mut memory = vec![in rt.alloc(); 0xa007 as Word; 32768]?;
+    let mut table = FlatTable::new(memory.as_mut_slice());
+    check_eq(table.look(0, u32::MAX), Entry::Absent)?;
+    check_eq(table.look(u32::MAX, 0), Entry::Absent)?;
+    check_eq(table.put(0, u32::MAX, FRAME_7), at(0, u32::MAX))?;
+    check_eq(table.put(u32::MAX, 0, FRAME_7), at(u32::MAX, 0))?;
+    table.release(u32::MAX, 0, u32::MAX);
+    table.release(0, 0, 0);
+    check_eq(table.look(0, 0), FRAME_7)
+}
+
+#[test]
+fn a_word_that_counts_as_unready_is_an_unready_page(rt: LibcRuntime) -> Result<(), Fail> {
+    for word in [1 as Word, 0x3fff, 0x4001, 0x7fff, 0xc000, 0xffff] {
+        let mut memory = vec![in rt.alloc(); word; 32768]?;
+        let mut table = FlatTable::new(memory.as_mut_slice());
+        check_eq(table.look(3, 4), Entry::Absent)?;
+        check_eq(table.put(3, 4, FRAME_7), at(3, 4))?;
+    }
+    Ok(())
+}
+
+#[test]
 fn release_past_the_end_stays_in_its_window(rt: LibcRuntime) -> Result<(), Fail> {
-    let mut memory = vec![in rt.alloc(); 0u16; 32768]?;
+    let mut memory = vec![in rt.alloc(); 0 as Word; 32768]?;
     let mut table = FlatTable::new(memory.as_mut_slice());
     check_eq(table.reserve(0, 1022, 2), Ok(()))?;
     check_eq(table.reserve(1, 0, 1), Ok(()))?;
-    check_eq(table.put(0, 1022, SOME), Ok(()))?;
-    check_eq(table.put(0, 1023, SOME), Ok(()))?;
-    check_eq(table.put(1, 0, SOME), Ok(()))?;
+    check_eq(table.put(0, 1022, FRAME_7), Ok(()))?;
+    check_eq(table.put(0, 1023, FRAME_7), Ok(()))?;
+    check_eq(table.put(1, 0, FRAME_7), Ok(()))?;
     table.release(0, 1023, u32::MAX);
-    check_eq(table.look(0, 1022), SOME)?;
+    check_eq(table.look(0, 1022), FRAME_7)?;
     check_eq(table.look(0, 1023), Entry::Absent)?;
-    check_eq(table.put(0, 1023, SOME), at(0, 1023))?;
-    check_eq(table.look(1, 0), SOME)?;
+    check_eq(table.put(0, 1023, FRAME_7), at(0, 1023))?;
+    check_eq(table.look(1, 0), FRAME_7)?;
     table.release(0, u32::MAX, u32::MAX);
     table.release(32, 0, u32::MAX);
-    check_eq(table.look(0, 1022), SOME)?;
-    check_eq(table.look(1, 0), SOME)
+    check_eq(table.look(0, 1022), FRAME_7)?;
+    check_eq(table.look(1, 0), FRAME_7)
 }
 
 #[test]
 fn short_memory_has_no_page(rt: LibcRuntime) -> Result<(), Fail> {
-    let mut memory = vec![in rt.alloc(); 0x9003u16; 32767]?;
+    let mut memory = vec![in rt.alloc(); 0x9003 as Word; 32767]?;
     let mut table = FlatTable::new(memory.as_mut_slice());
     check_eq(table.look(0, 0), Entry::Absent)?;
     check_eq(table.reserve(0, 0, 1), at(0, 0))?;
-    check_eq(table.put(0, 0, SOME), at(0, 0))?;
+    check_eq(table.put(0, 0, FRAME_7), at(0, 0))?;
     table.release(0, 0, 1024);
-    check_eq(memory.iter().copied().min(), Some(0x9003))
+    check_eq(memory.iter().copied().min(), Some(0x9003))?;
+    check_eq(memory.iter().copied().max(), Some(0x9003))
 }
 
 #[test]
 fn making_clears_nothing_and_longer_memory_is_kept(rt: LibcRuntime) -> Result<(), Fail> {
-    let mut memory = vec![in rt.alloc(); 0x9003u16; 32769]?;
+    let mut memory = vec![in rt.alloc(); 0x9003 as Word; 32769]?;
     let mut table = FlatTable::new(memory.as_mut_slice());
     let found = table.look(31, 1023);
     for process in 0..40 {
@@ -116,9 +142,9 @@ fn making_clears_nothing_and_longer_memory_is_kept(rt: LibcRuntime) -> Result<()
 
 #[test]
 fn reserve_over_words_of_every_kind(rt: LibcRuntime) -> Result<(), Fail> {
-    let mut memory = vec![in rt.alloc(); 0u16; 32768]?;
+    let mut memory = vec![in rt.alloc(); 0 as Word; 32768]?;
     let words = [
-        0u16,
+        0 as Word,
         1,
         0x3fff,
         0x4000,
@@ -135,7 +161,7 @@ fn reserve_over_words_of_every_kind(rt: LibcRuntime) -> Result<(), Fail> {
     }
     let mut table = FlatTable::new(memory.as_mut_slice());
     check_eq(table.reserve(0, 0, 9), Ok(()))?;
-    check_eq(table.look(0, 8), SOME)?;
+    check_eq(table.look(0, 8), FRAME_7)?;
     for i in 0..8 {
         check_eq(memory.get(i).copied(), Some(0x4000))?;
     }
@@ -145,20 +171,20 @@ fn reserve_over_words_of_every_kind(rt: LibcRuntime) -> Result<(), Fail> {
 
 #[test]
 fn putting_absent_leaves_the_page_ready(rt: LibcRuntime) -> Result<(), Fail> {
-    let mut memory = vec![in rt.alloc(); 0u16; 32768]?;
-    check_eq(lend(memory.as_mut_slice(), SOME), at(1, 5))?;
+    let mut memory = vec![in rt.alloc(); 0 as Word; 32768]?;
+    check_eq(lend(memory.as_mut_slice(), FRAME_7), at(1, 5))?;
     let mut table = FlatTable::new(memory.as_mut_slice());
     check_eq(table.reserve(1, 5, 1), Ok(()))?;
-    check_eq(table.put(1, 5, SOME), Ok(()))?;
+    check_eq(table.put(1, 5, FRAME_7), Ok(()))?;
     check_eq(table.put(1, 5, Entry::Absent), Ok(()))?;
     check_eq(table.look(1, 5), Entry::Absent)?;
-    check_eq(lend(memory.as_mut_slice(), SOME), Ok(()))?;
+    check_eq(lend(memory.as_mut_slice(), FRAME_7), Ok(()))?;
     check_eq(memory.get(1029).copied(), Some(0xa007))
 }
 
 #[test]
 fn a_frame_too_large_is_refused(rt: LibcRuntime) -> Result<(), Fail> {
-    let mut memory = vec![in rt.alloc(); 0x4000u16; 32768]?;
+    let mut memory = vec![in rt.alloc(); 0x4000 as Word; 32768]?;
     let mut table = FlatTable::new(memory.as_mut_slice());
     let too_large = Entry::Present {
         frame: 4096,
@@ -166,8 +192,8 @@ fn a_frame_too_large_is_refused(rt: LibcRuntime) -> Result<(), Fail> {
         accessed: false,
     };
     check_eq(table.put(0, 9, too_large), at(0, 9))?;
-    check_eq(table.put(1, 9, SOME), Ok(()))?;
+    check_eq(table.put(1, 9, FRAME_7), Ok(()))?;
     check_eq(table.put(1, 9, too_large), at(1, 9))?;
     check_eq(table.look(0, 9), Entry::Absent)?;
-    check_eq(table.look(1, 9), SOME)
+    check_eq(table.look(1, 9), FRAME_7)
 }

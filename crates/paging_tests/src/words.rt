@@ -4,6 +4,7 @@ use paging::MAX_FRAME;
 use paging::PageState;
 use paging::PageStateDebug;
 use paging::PageStatePartialEq;
+use paging::Word;
 use paging::decode;
 use paging::encode;
 use std::test::*;
@@ -30,7 +31,7 @@ fn lawful_words() -> Result<(), Fail> {
 fn any_other_word_counts_as_unready() -> Result<(), Fail> {
     // Unready, and ready and absent, with another bit set; and the kind without a use.
     for word in [
-        1u16,
+        1 as Word,
         0x0fff,
         0x1000,
         0x2000,
@@ -58,7 +59,7 @@ fn frames_that_have_a_word() -> Result<(), Fail> {
 #[test]
 fn there_and_back_over_every_word() -> Result<(), Fail> {
     let mut lawful = 0u32;
-    for word in 0..=u16::MAX {
+    for word in 0..=Word::MAX {
         if encode(decode(word)) == Some(word) {
             lawful = lawful.saturating_add(1);
         }
