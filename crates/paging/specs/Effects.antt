@@ -65,8 +65,10 @@ pub record Unput (t : Meaning) (p q : ℕ) (e : Entry) (f : Fault) (u : Meaning)
   pub fault : f ≡ record { process = p; page = q }
   pub same : u ≡ t
 
+-- reserve: one or the other, by its answer
 abbrev pub Reserves : Meaning → ℕ → ℕ → ℕ → Result (Unit {0}) Fault → Meaning → Type 0
 Reserves t p a n r u = Cases r (λ _. Reserved t p a n u) (λ f. Unfit t p a n f u)
 
+-- put: one or the other, by its answer
 abbrev pub Puts : Meaning → ℕ → ℕ → Entry → Result (Unit {0}) Fault → Meaning → Type 0
 Puts t p q e r u = Cases r (λ _. Replaced t p q e u) (λ f. Unput t p q e f u)

@@ -53,6 +53,7 @@ flat-fits ws p a n = whole ws && not (ruled-out flat-pages p a n)
 abbrev pub flat-fault : List ℕ → ℕ → ℕ → ℕ → Option Fault
 flat-fault ws p a n = cond (flat-fits ws p a n) None (Some (record { process = p; page = a }))
 
+-- what the table means
 abbrev pub flat : List ℕ → Meaning
 flat ws = by-states (flat-state ws) (flat-fault ws)
 

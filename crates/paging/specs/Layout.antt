@@ -17,6 +17,7 @@ write-bit = accessed-bit + 1
 abbrev pub kind-bit : ℕ
 kind-bit = write-bit + 1
 
+-- and this many of them
 abbrev pub kind-bits : ℕ
 kind-bits = 2
 

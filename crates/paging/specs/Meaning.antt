@@ -9,6 +9,7 @@ use Rattle.paging.specs.declared.page.Entry.the-variants.{Absent}
 use Rattle.paging.specs.declared.page.Fault.{Fault}
 use Rattle.paging.specs.Ranges.{processes, within, ruled-out}
 
+-- what a table means
 pub record Meaning : Type 0 where
   -- the entry of page q of process p
   pub entries : ℕ → ℕ → Entry

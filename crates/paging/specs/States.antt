@@ -16,6 +16,7 @@ abbrev pub entry-of : PageState → Entry
 entry-of Unready = Absent
 entry-of (Ready e) = e
 
+-- whether the page is ready
 abbrev pub is-ready : PageState → Bool
 is-ready Unready = false
 is-ready (Ready e) = true
