@@ -35,6 +35,7 @@ pub trait PageTable {
     fn release(&mut self, process: u32, first: u32, count: u32)
         ensures { λ _. ⌜ Releases (meaning (now (self .entry))) process first count (meaning (now (self .exit))) ⌝ };
 
+    // The entry of a page: absent where the page is not ready.
     fn look(&self, process: u32, page: u32) -> Entry
         ensures { λ r. ⌜ r ≡ meaning (now (self .entry)) .entries process page ⌝ };
 

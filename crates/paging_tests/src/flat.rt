@@ -1,4 +1,6 @@
 // The flat table.
+ghost use mathlib.Core.Path.{_≡_};
+ghost use Rattle.std.specs.declared.result.Result.the-variants.{Err};
 ghost use Rattle.paging.specs.Flat.{WroteIf};
 ghost use Rattle.paging.specs.Window.{replaced};
 use paging::Entry;
@@ -13,13 +15,17 @@ use paging::PageTable;
 use paging::Word;
 use std::test::*;
 
+// Frame 7, which may be written and was not accessed.
 const FRAME_7: Entry = Entry::Present {
     frame: 7,
     write: true,
     accessed: false,
 };
 
-fn at(process: u32, page: u32) -> Result<(), Fault> {
+// A refusal that names the page.
+fn at(process: u32, page: u32) -> Result<(), Fault>
+    ensures { λ r. ⌜ r ≡ Err (record { process = process; page = page }) ⌝ }
+{
     Err(Fault { process, page })
 }
 

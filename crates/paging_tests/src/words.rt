@@ -1,4 +1,7 @@
 // The stored word.
+ghost use mathlib.Core.Path.{_≡_};
+ghost use Rattle.paging.specs.declared.page.Entry.the-variants.{Present};
+ghost use Rattle.paging.specs.declared.page.PageState.the-variants.{Ready};
 use paging::Entry;
 use paging::MAX_FRAME;
 use paging::PageState;
@@ -9,7 +12,10 @@ use paging::decode;
 use paging::encode;
 use std::test::*;
 
-fn present(frame: u32, write: bool, accessed: bool) -> PageState {
+// A page that is ready and present.
+fn present(frame: u32, write: bool, accessed: bool) -> PageState
+    ensures { λ r. ⌜ r ≡ Ready (Present frame write accessed) ⌝ }
+{
     PageState::Ready(Entry::Present {
         frame,
         write,
