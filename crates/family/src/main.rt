@@ -1,14 +1,14 @@
 // A parent and its child on a page table: each step, and what came of it.
+#![tactic(auto)]
+
 mod story;
 
-use paging::{FlatTable, TwoLevelTable, Word};
+use paging::{FlatTable, Word};
 use story::Story;
 
 fn main(rt: HostRuntime) -> anyhow::Result<()> {
     on_flat_table(&rt)?;
-    on_two_level_table(&rt)?;
-    on_short_memory(&rt)?;
-    where_leaves_run_out(&rt)
+    on_short_memory(&rt)
 }
 
 fn on_flat_table(rt: &HostRuntime) -> anyhow::Result<()> {
@@ -20,21 +20,9 @@ fn on_flat_table(rt: &HostRuntime) -> anyhow::Result<()> {
     Ok(())
 }
 
-fn on_two_level_table(rt: &HostRuntime) -> anyhow::Result<()> {
-    println!(rt; "A two-level table.")?;
-    Story::new(rt, TwoLevelTable::new()).tell()?;
-    Ok(())
-}
-
 fn on_short_memory(rt: &HostRuntime) -> anyhow::Result<()> {
     let mut memory = vec![in rt.alloc(); 0 as Word; FlatTable::WORDS - 1]?;
     println!(rt; "A flat table over {} words, one too few.", memory.len())?;
     Story::new(rt, FlatTable::new(memory.as_mut_slice())).tell_nothing_fits()?;
-    Ok(())
-}
-
-fn where_leaves_run_out(rt: &HostRuntime) -> anyhow::Result<()> {
-    println!(rt; "A two-level table whose leaves run out.")?;
-    Story::new(rt, TwoLevelTable::new()).tell_leaves_run_out()?;
     Ok(())
 }

@@ -19,12 +19,11 @@ fn entry(frame: u32, write: bool, accessed: bool) -> Entry
     }
 }
 
-// Who acts: the parent, its child, a neighbour by its process, or a stranger that is no process of any table.
+// Who acts: the parent, its child, or a stranger that is no process of any table.
 #[derive(Clone, Copy)]
 enum Person {
     Parent,
     Child,
-    Neighbour(u32),
     Stranger,
 }
 
@@ -35,7 +34,6 @@ impl Person {
         match self {
             Person::Parent => 0,
             Person::Child => 1,
-            Person::Neighbour(process) => process,
             Person::Stranger => PROCESSES,
         }
     }
@@ -46,7 +44,6 @@ impl fmt::Display for Person {
         match self {
             Person::Parent => write!(f, "parent"),
             Person::Child => write!(f, "child"),
-            Person::Neighbour(process) => write!(f, "neighbour {process}"),
             Person::Stranger => write!(f, "stranger"),
         }
     }
@@ -79,46 +76,6 @@ impl<'a, P: PageTable> Story<'a, P> {
         self.reserve(Person::Parent, 10, 4)?;
         self.put(Person::Parent, 11, entry(3, true, true))?;
         self.look(Person::Parent, 11)
-    }
-
-    // What is told of a table with 256 leaves for blocks of 64 pages: they run out, and one comes back.
-    pub fn tell_leaves_run_out(&mut self) -> io::Result<()> {
-        self.neighbours_take_leaves()?;
-        self.family_takes_the_rest()?;
-        self.a_leaf_comes_back()
-    }
-
-    // The neighbours take 254 leaves, which leaves two.
-    fn neighbours_take_leaves(&mut self) -> io::Result<()> {
-        println!(self.rt; "The neighbours take 254 of 256 leaves:")?;
-        self.reserve(Person::Neighbour(2), 0, 4096)?;
-        self.reserve(Person::Neighbour(3), 0, 4096)?;
-        self.reserve(Person::Neighbour(4), 0, 4096)?;
-        self.reserve(Person::Neighbour(5), 64, 3968)
-    }
-
-    // Three blocks would need one leaf more than there is, and two need just these.
-    fn family_takes_the_rest(&mut self) -> io::Result<()> {
-        println!(self.rt; "The family takes the last two:")?;
-        self.reserve(Person::Parent, 63, 66)?;
-        self.put(Person::Parent, 63, entry(3, true, true))?;
-        self.reserve(Person::Parent, 63, 2)?;
-        self.put(Person::Parent, 63, entry(3, true, true))?;
-        self.put(Person::Parent, 64, entry(4, true, true))?;
-        self.reserve(Person::Child, 100, 1)?;
-        self.reserve(Person::Parent, 0, 128)?;
-        self.look(Person::Parent, 63)
-    }
-
-    // A block's last ready page takes its leaf along, and no page before it.
-    fn a_leaf_comes_back(&mut self) -> io::Result<()> {
-        println!(self.rt; "A leaf comes back:")?;
-        self.release(Person::Neighbour(5), 64, 63)?;
-        self.reserve(Person::Child, 100, 1)?;
-        self.release(Person::Neighbour(5), 127, 1)?;
-        self.reserve(Person::Child, 100, 1)?;
-        self.look(Person::Child, 100)?;
-        self.reserve(Person::Child, 200, 1)
     }
 
     // The parent maps two frames into the four pages that it reserved.

@@ -71,7 +71,10 @@ impl<'a> PageTable for FlatTable<'a> {
     }
 
     fn look(&self, process: u32, page: u32) -> Entry {
-        look_in(self.words, process, page).entry()
+        match look_in(self.words, process, page) {
+            PageState::Unready => Entry::Absent,
+            PageState::Ready(entry) => entry,
+        }
     }
 
     fn put(&mut self, process: u32, page: u32, entry: Entry) -> Result<(), Fault>

@@ -1,4 +1,6 @@
 // Page tables: the entry of a page, the word that stores it, the interface that every table keeps, the flat table and the two-level table.
+#![tactic(auto)]
+
 mod codec;
 mod directory;
 mod flat;

@@ -47,7 +47,10 @@ fn is_ready(word: Word) -> bool
 fn ready(word: Word) -> Word
     ensures { result ≡ readied word }
 {
-    if is_ready(word) { word } else { READY_ABSENT }
+    match decode(word) {
+        PageState::Unready => READY_ABSENT,
+        PageState::Ready(_) => word,
+    }
 }
 
 // The end of a range, as far as the window goes.

@@ -169,9 +169,14 @@ fn putting_absent_leaves_the_page_ready(rt: HostRuntime) -> Result<(), Fail> {
 fn a_frame_too_large_is_refused(rt: HostRuntime) -> Result<(), Fail> {
     let mut memory = vec![in rt.alloc(); 0x4000 as Word; 32768]?;
     let mut table = FlatTable::new(memory.as_mut_slice());
-    assert_eq!(rt; table.put(0, 9, FRAME_4096), at(0, 9));
+    let too_large = Entry::Present {
+        frame: 4096,
+        write: true,
+        accessed: false,
+    };
+    assert_eq!(rt; table.put(0, 9, too_large), at(0, 9));
     assert_eq!(rt; table.put(1, 9, FRAME_7), Ok(()));
-    assert_eq!(rt; table.put(1, 9, FRAME_4096), at(1, 9));
+    assert_eq!(rt; table.put(1, 9, too_large), at(1, 9));
     assert_eq!(rt; table.look(0, 9), Entry::Absent);
     assert_eq!(rt; table.look(1, 9), FRAME_7);
     Ok(())

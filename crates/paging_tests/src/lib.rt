@@ -1,4 +1,6 @@
 // Examples of the crate `paging` at its edges.
+#![tactic(auto)]
+
 #[cfg(test)]
 mod answers;
 #[cfg(test)]
