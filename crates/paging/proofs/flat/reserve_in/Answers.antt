@@ -10,7 +10,7 @@ returns c =
     let s = c.in-Some.start in
     let ws = c.args.words.now in
     record {
-      done = fits_window p c.args.first c.args.count s ws c.if-ruled-out.ensures c.in-Some.ensures;
+      done = fits_window p c.args.first c.args.count s ws c.if-ruled_out.ensures c.in-Some.ensures;
       after = window_wrote p s (s + flat_pages - s) ws c.in-Some.ensures (omega arith) readied c.args.first c.args.count
           c.reserve.new.window c.reserve.ensures.words;
     }

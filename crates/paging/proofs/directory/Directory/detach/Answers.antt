@@ -3,8 +3,8 @@ use Rattle.std.proofs.lemmas.List.{length-set}
 use Rattle.paging.proofs.Directories.{detached_all, detached_once, detached_room, holds_inside, set_none}
 use Rattle.paging.proofs.directory.Directory.detach.Goals as goal
 
-pub offset-bounds-self-block : goal.offset-bounds-self-block
-offset-bounds-self-block c =
+pub offset_bounds-self-block : goal.offset_bounds-self-block
+offset_bounds-self-block c =
     let inside : c.args.block < length c.args.self.now.slots =
     holds_inside c.args.self.now.slots c.args.block c.in-Some.leaf (sym c.in-Some.ensures) in
     omega arith
@@ -21,23 +21,19 @@ give-requires c =
     detached_room d.slots d.free.stack d.free.count d.once d.all c.args.block c.in-Some.leaf d.free.stack d.free.count
     (holds_inside d.slots c.args.block c.in-Some.leaf (sym c.in-Some.ensures)) (sym c.in-Some.ensures)
 
-pub invariant-of-self : goal.invariant-of-self
-invariant-of-self c =
+pub invariant_of-self : goal.invariant_of-self
+invariant_of-self c =
     let d = c.args.self.now in
     let more = c.give.new.self in
     let holds = sym c.in-Some.ensures in
-    let inside = holds_inside d.slots c.args.block c.in-Some.leaf holds in (
-      length-set d.slots c.args.block None ∙ d.sized,
-      (
-        detached_once d.slots d.free.stack d.free.count d.once d.all c.args.block c.in-Some.leaf more.stack more.count inside holds
-            c.give.ensures,
-        (
-          detached_all d.slots d.free.stack d.free.count d.once d.all c.args.block c.in-Some.leaf more.stack more.count inside holds
-              c.give.ensures,
-          tt,
-        ),
-      ),
-    )
+    let inside = holds_inside d.slots c.args.block c.in-Some.leaf holds in
+    record {
+      sized = length-set d.slots c.args.block None ∙ d.sized;
+      once = detached_once d.slots d.free.stack d.free.count d.once d.all c.args.block c.in-Some.leaf more.stack more.count inside holds
+          c.give.ensures;
+      all = detached_all d.slots d.free.stack d.free.count d.once d.all c.args.block c.in-Some.leaf more.stack more.count inside holds
+          c.give.ensures;
+    }
 
-pub returns-in-default : goal.returns-in-default
-returns-in-default c = set_none c.args.self.now.slots c.args.block (sym c.in-default.ensures)
+pub returns-in_default : goal.returns-in_default
+returns-in_default c = set_none c.args.self.now.slots c.args.block (sym c.in_default.ensures)

@@ -6,8 +6,8 @@ use Rattle.paging.specs.Window.{ready_in}
 use Rattle.paging.specs.Word.{state_of}
 use Rattle.paging.proofs.leaf.Leaf.reserve.Goals as goal
 
-pub overflow-add-self : goal.overflow-add-self
-overflow-add-self c =
+pub overflow_add-self : goal.overflow_add-self
+overflow_add-self c =
     let after = c.reserve.new.window in
     let e : length after ≡ length c.args.self.now.words = c.reserve.ensures.words.long in
     let z : length after ≤ block_pages = omega arith in

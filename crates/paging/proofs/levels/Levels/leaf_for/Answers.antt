@@ -11,7 +11,7 @@ returns c =
     let b = c.args.block in
     let l = c.attach-leaf.result in
     let after = c.attach-leaf.new.self.slots in
-    let lacked = sym c.in-default.ensures in
+    let lacked = sym c.in_default.ensures in
     let got = c.attach-leaf.ensures in
     record {
       leaf = attached_holds (slots_of t) after b l got.now (omega arith);

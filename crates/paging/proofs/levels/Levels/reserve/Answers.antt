@@ -8,16 +8,16 @@ use Rattle.paging.proofs.levels.Levels.reserve.Goals as goal
 
 pub loop-block-init : goal.loop-block-init
 loop-block-init c =
-    let b = c.first-block-block.result in
+    let b = c.first_block-block.result in
     let t = c.args.self.now in (
       c.requires.sound,
-      changes_none made_ready b c.args.span.start c.args.span.end t c.first-block-block.ensures,
+      changes_none made_ready b c.args.span.start c.args.span.end t c.first_block-block.ensures,
       (λ m above. refl),
-      omega (arith, lacking_start (holds (slots_of t)) (first_block c.args.span.start) b c.first-block-block.ensures),
+      omega (arith, lacking_start (holds (slots_of t)) (first_block c.args.span.start) b c.first_block-block.ensures),
     )
 
-pub reserve-in-requires : goal.reserve-in-requires
-reserve-in-requires c =
+pub reserve_in-requires : goal.reserve_in-requires
+reserve_in-requires c =
     let k = c.loop-block.block in
     let b = first_block c.args.span.start in
     let inv = c.loop-block.invariant in
@@ -34,8 +34,8 @@ loop-block-preserved c =
     let k = c.loop-block.block in
     let b = first_block c.args.span.start in
     let inv = c.loop-block.invariant in
-    let after = c.reserve-in.new.self in
-    let done = c.reserve-in.ensures in (
+    let after = c.reserve_in.new.self in
+    let done = c.reserve_in.ensures in (
       done.sound,
       changes_more made_ready k c.args.span.start c.args.span.end c.args.self.now c.loop-block.self after inv.1 done.states,
       (λ m above. done.attached.others m (λ e. omega arith) ∙ inv.2 m (omega arith)),

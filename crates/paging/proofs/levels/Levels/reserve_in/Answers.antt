@@ -9,10 +9,10 @@ use Rattle.paging.proofs.levels.Levels.reserve_in.Goals as goal
 
 pub returns : goal.returns
 returns c =
-    let t = c.leaf-for-leaf.new.self in
+    let t = c.leaf_for-leaf.new.self in
     let b = c.args.block in
-    let l = c.leaf-for-leaf.result in
-    let got = c.leaf-for-leaf.ensures in
+    let l = c.leaf_for-leaf.result in
+    let got = c.leaf_for-leaf.ensures in
     let old = c.index-self-leaf.result in
     let new = c.reserve.new.self in
     let first = c.of-first.result.first in

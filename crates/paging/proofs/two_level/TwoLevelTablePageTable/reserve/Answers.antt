@@ -23,7 +23,7 @@ reserve-requires c =
     let a = c.args.first in
     let n = c.args.count in
     let span = c.of.result in
-    let fits = c.in-default.ensures in
+    let fits = c.in_default.ensures in
     record {
       sound = record { sized = c.args.self.now.sized; used = c.args.self.now.used };
       some = fits_some h p a n span.start span.end c.of.ensures.start c.of.ensures.end fits;
@@ -38,7 +38,7 @@ returns c =
     let a = c.args.first in
     let n = c.args.count in
     let span = c.of.result in
-    let fits = fault_ready t c.args.self.now.used p a n None c.in-default.ensures in
+    let fits = fault_ready t c.args.self.now.used p a n None c.in_default.ensures in
     record {
       reserves = two_level_reserved p a n t c.reserve.new.self span.start span.end c.of.ensures.start c.of.ensures.end fits
           (fits_inside h p a n span.start span.end c.of.ensures.start c.of.ensures.end fits) c.reserve.ensures.states;
