@@ -1,7 +1,7 @@
 -- The stored word: the word of each state of a page, and the state that each word means.
 --     word_of s           the word of the state s, or none where its frame is too large
---     state-of w          what the word w means
---     lawful-word w       w is a word that some state has
+--     state_of w          what the word w means
+--     lawful_word w       w is a word that some state has
 --     Exact               there and back is the identity, and no second word has the same meaning
 use Rattle.std.specs.Prelude.{◌≡◌, ℕ, ◌+◌, ◌*◌, ◌/◌, ◌%◌, ◌^◌, ◌<◌, Bool, true, false, cond, ◌||◌, Some, None, Option, ◌==◌, nat_le}
 use Rattle.paging.specs.declared.page.Entry.{Entry}
