@@ -16,7 +16,8 @@ import sys
 DASHED = r"[A-Za-z_][\w']*(?:-[\w'][\w']*)+"
 TOKEN = re.compile(r"[^\s(){}\[\],;.«»λ]+")
 DEFINED = re.compile(rf"^\s*(?:(?:abbrev|unfoldable|pub)\s+)*({DASHED})\s*(?:\{{[^}}]*\}}\s*)?:(?=\s)")
-BOUND = re.compile(rf"(?:\blet\s+|[(])({DASHED})(?=\s+:\s)")
+LET = re.compile(rf"\blet\s+({DASHED})(?=\s+:\s)")
+BINDER = re.compile(r"[({]((?:[\w'-]+\s+)+):\s")
 # the modules of an import, which are no names of the file
 PATH = re.compile(r"(?m)^use [\w.+]+(?=\.\{| as )")
 # what a check asks for in the folder of a function's proof: the toolchain makes these names
@@ -62,7 +63,9 @@ def own_names(root):
                 m = DEFINED.match(line)
                 if m and not (is_answer(path) and (MADE.search(m.group(1)) or re.search(r":\s*goal\.", line))):
                     own.add(m.group(1))
-                own.update(BOUND.findall(line))
+                own.update(LET.findall(line))
+                for names in BINDER.findall(line):
+                    own.update(n for n in names.split() if re.fullmatch(DASHED, n))
     return own
 
 
