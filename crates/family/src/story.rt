@@ -1,23 +1,11 @@
 // The story of a parent and its child on a page table, told one step to a line.
 ghost use Rattle.std.specs.Prelude.{◌≡◌, Result};
-ghost use Rattle.paging.specs.declared.page.Entry.TheVariants.{Present};
 ghost use Rattle.paging.specs.declared.page.Fault.{Fault};
 ghost use Rattle.paging.specs.Effects.{Puts, Releases, Reserves};
 ghost use Rattle.family.specs.People.{number};
 
 use paging::{Entry, Fault, MAX_FRAME, PROCESSES, PageTable};
 use std::{fmt, io};
-
-// A present entry.
-fn entry(frame: u32, write: bool, accessed: bool) -> Entry
-    ensures { result ≡ Present frame write accessed }
-{
-    Entry::Present {
-        frame,
-        write,
-        accessed,
-    }
-}
 
 // Who acts: the parent, its child, or a stranger that is no process of any table.
 #[derive(Clone, Copy)]
@@ -28,6 +16,7 @@ enum Person {
 }
 
 impl Person {
+    // No From: that a person is turned into a number says less than which number it is.
     fn process(self) -> u32
         ensures { result ≡ number self }
     {
@@ -41,11 +30,11 @@ impl Person {
 
 impl fmt::Display for Person {
     fn fmt<W: fmt::Write>(&self, f: &mut fmt::Formatter<W>) -> fmt::Result {
-        match self {
-            Person::Parent => write!(f, "parent"),
-            Person::Child => write!(f, "child"),
-            Person::Stranger => write!(f, "stranger"),
-        }
+        f.write_str(match self {
+            Person::Parent => "parent",
+            Person::Child => "child",
+            Person::Stranger => "stranger",
+        })
     }
 }
 
@@ -74,7 +63,7 @@ impl<'a, P: PageTable> Story<'a, P> {
     // What is left of the story where nothing fits.
     pub fn tell_nothing_fits(&mut self) -> io::Result<()> {
         self.reserve(Person::Parent, 10, 4)?;
-        self.put(Person::Parent, 11, entry(3, true, true))?;
+        self.put(Person::Parent, 11, Entry::present(3, true, true))?;
         self.look(Person::Parent, 11)
     }
 
@@ -82,22 +71,26 @@ impl<'a, P: PageTable> Story<'a, P> {
     fn parent_alone(&mut self) -> io::Result<()> {
         println!(self.rt; "The parent alone:")?;
         self.reserve(Person::Parent, 10, 4)?;
-        self.put(Person::Parent, 11, entry(3, true, true))?;
-        self.put(Person::Parent, 12, entry(4, false, true))?;
+        self.put(Person::Parent, 11, Entry::present(3, true, true))?;
+        self.put(Person::Parent, 12, Entry::present(4, false, true))?;
         self.look(Person::Parent, 11)?;
         self.look(Person::Parent, 12)?;
         self.look(Person::Parent, 13)?;
         self.put(Person::Parent, 12, Entry::Absent)?;
         self.look(Person::Parent, 12)?;
-        self.put(Person::Parent, 12, entry(5, false, true))
+        self.put(Person::Parent, 12, Entry::present(5, false, true))
     }
 
     // What a table refuses, and the page that it names.
     fn refusals(&mut self) -> io::Result<()> {
         println!(self.rt; "What is refused:")?;
-        self.put(Person::Parent, 14, entry(3, true, true))?;
-        self.put(Person::Parent, 13, entry(MAX_FRAME + 1, true, true))?;
-        self.put(Person::Stranger, 11, entry(3, true, true))?;
+        self.put(Person::Parent, 14, Entry::present(3, true, true))?;
+        self.put(
+            Person::Parent,
+            13,
+            Entry::present(MAX_FRAME + 1, true, true),
+        )?;
+        self.put(Person::Stranger, 11, Entry::present(3, true, true))?;
         self.reserve(Person::Parent, 5, 0)?;
         self.reserve(Person::Parent, P::PAGES.saturating_sub(1), 2)?;
         self.reserve(Person::Parent, u32::MAX, u32::MAX)?;
@@ -110,8 +103,8 @@ impl<'a, P: PageTable> Story<'a, P> {
         println!(self.rt; "The child shares a frame:")?;
         self.look(Person::Child, 11)?;
         self.reserve(Person::Child, 10, 4)?;
-        self.put(Person::Child, 11, entry(3, false, false))?;
-        self.put(Person::Parent, 11, entry(3, false, true))?;
+        self.put(Person::Child, 11, Entry::present(3, false, false))?;
+        self.put(Person::Parent, 11, Entry::present(3, false, true))?;
         self.look(Person::Parent, 11)?;
         self.look(Person::Child, 11)
     }

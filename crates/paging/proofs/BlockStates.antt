@@ -11,7 +11,7 @@ use Rattle.paging.specs.Blocks.{between, block_pages, in_block, IsPart}
 use Rattle.paging.specs.Directory.{holders, leaf_of}
 use Rattle.paging.specs.Ranges.{within}
 use Rattle.paging.specs.States.{is_ready}
-use Rattle.paging.specs.TwoLevel.{Changes, leaf_state, state_at, words_in}
+use Rattle.paging.specs.Leaves.{Changes, leaf_state, state_at, words_in}
 use Rattle.paging.specs.Window.{ready_in, Rewrites, window_state}
 use Rattle.paging.specs.Word.{state_of}
 use Rattle.paging.proofs.Directories.{held_never, held_once, holds_inside}

@@ -1,15 +1,14 @@
 -- Each leaf is held by one block or is free, as blocks are given leaves and lose them.
-use Rattle.std.proofs.Common.{◌≡◌, ℕ, zero, suc, ◌+◌, ◌<◌, ◌≤◌, cond, not, eqb, List, length, take, set, is_some, Some, None, Option, sym, ap, ◌∙◌, ⊎_elim, arith}
+use Rattle.std.proofs.Common.{◌≡◌, ℕ, zero, suc, ◌+◌, ◌<◌, ◌≤◌, cond, not, eqb, List, [], ◌∷◌, ◌++◌, length, take, set, is_some, Some, None, Option, sym, ap, ◌∙◌, ⊎_elim, arith, length-append}
 use Rattle.std.proofs.lemmas.List.{get_or_past, get_or-set_other, get_or-set_same, set-get_or, take_all}
 use Rattle.std.proofs.lemmas.List.Sums.{get_or-le-sum_by, sum_by_more, sum_by-set}
 use Rattle.std.proofs.lemmas.Bool.{cases_eq, cases_lt}
 use Rattle.std.proofs.lemmas.Bool.Decides.{nat_tests}
 use Rattle.paging.specs.Blocks.{blocks, leaf_count}
-use Rattle.paging.specs.Directory.{Attached, held, holders, holds, is_leaf, leaf_of}
+use Rattle.paging.specs.Directory.{Attached, held, holders, holds, is_leaf, leaf_of, times}
 use Rattle.paging.specs.Lacking.{count_of, lacks}
-use Rattle.paging.specs.Listed.{listed, Pushed, times}
 use Rattle.paging.proofs.Counting.{count_more, count_none}
-use Rattle.paging.proofs.FreeList.{pushed_times}
+use Rattle.paging.proofs.FreeList.{times_push}
 
 -- a block that holds a leaf is one of the directory's
 pub holds_inside : (slots : List (Option ℕ)) (b l : ℕ) → leaf_of slots b ≡ Some l → b < length slots
@@ -26,45 +25,45 @@ module _ (slots : List (Option ℕ)) (b : ℕ) (inside : b < length slots) where
   held_set o = sum_by-set (λ (x : Option ℕ). cond (is_some x) 1 0) slots b o None inside
 
 -- the invariant of the directory, between the slots and the list of free leaves
-module _ (slots : List (Option ℕ)) (stack : List ℕ) (count : ℕ)
-    (once : (l : ℕ) → l < leaf_count → holders slots l + times l (listed stack count) ≡ 1) (all : count + held slots ≡ leaf_count) where
-  module _ (b l : ℕ) (stack' : List ℕ) (count' : ℕ) (inside : b < length slots) where
-    -- a block that lacks a leaf gets the one that was listed last
-    module _ (lacked : leaf_of slots b ≡ None) (p : Pushed l stack' count' stack count) where
-      pub attached_once : (m : ℕ) → m < leaf_count → holders (set slots b (Some l)) m + times m (listed stack' count') ≡ 1
-      attached_once m h =
-          let stored : holders (set slots b (Some l)) m + 0 ≡ holders slots m + cond (eqb l m) 1 0 =
-          rw lacked at (holders_set slots b inside (Some l) m) in
-          omega (arith, once m h, pushed_times m l stack' count' stack count p)
+module _ (slots : List (Option ℕ)) (free : List ℕ)
+    (once : (l : ℕ) → l < leaf_count → holders slots l + times l free ≡ 1) (all : length free + held slots ≡ leaf_count)
+    (b l : ℕ) (left : List ℕ) (inside : b < length slots) where
+  -- a block that lacks a leaf gets the one that was listed last
+  module _ (lacked : leaf_of slots b ≡ None) (last : free ≡ left ++ (l ∷ [])) where
+    pub attached_once : (m : ℕ) → m < leaf_count → holders (set slots b (Some l)) m + times m left ≡ 1
+    attached_once m h =
+        let stored : holders (set slots b (Some l)) m + 0 ≡ holders slots m + cond (eqb l m) 1 0 =
+        rw lacked at (holders_set slots b inside (Some l) m) in
+        omega (arith, once m h, ap (times m) last, times_push m l left)
 
-      pub attached_all : count' + held (set slots b (Some l)) ≡ leaf_count
-      attached_all =
-          let stored : held (set slots b (Some l)) + 0 ≡ held slots + 1 = rw lacked at (held_set slots b inside (Some l)) in
-          omega (arith, p.more)
+    pub attached_all : length left + held (set slots b (Some l)) ≡ leaf_count
+    attached_all =
+        let stored : held (set slots b (Some l)) + 0 ≡ held slots + 1 = rw lacked at (held_set slots b inside (Some l)) in
+        omega (arith, ap length last, length-append left (l ∷ []))
 
-      -- which no block held
-      pub attached_new : l < leaf_count → holders slots l ≡ 0
-      attached_new h =
-          let here : cond {A = ℕ} (eqb l l) 1 0 ≡ 1 = grind (arith, nat_tests) in
-          omega (arith, once l h, pushed_times l l stack' count' stack count p)
+    -- which no block held
+    pub attached_new : l < leaf_count → holders slots l ≡ 0
+    attached_new h =
+        let here : cond {A = ℕ} (eqb l l) 1 0 ≡ 1 = grind (arith, nat_tests) in
+        omega (arith, once l h, ap (times l) last, times_push l l left)
 
-    -- a block loses its leaf, which is listed
-    module _ (holds : leaf_of slots b ≡ Some l) where
-      pub detached_room : count < leaf_count
-      detached_room =
-          let some : cond {A = ℕ} (is_some (leaf_of slots b)) 1 0 ≡ 1 = ap (λ (o : Option ℕ). cond {A = ℕ} (is_some o) 1 0) holds in
-          omega (arith, get_or-le-sum_by (λ (x : Option ℕ). cond (is_some x) 1 0) slots b None inside)
+  -- a block loses its leaf, which is listed
+  module _ (holds : leaf_of slots b ≡ Some l) where
+    pub detached_room : length free < leaf_count
+    detached_room =
+        let some : cond {A = ℕ} (is_some (leaf_of slots b)) 1 0 ≡ 1 = ap (λ (o : Option ℕ). cond {A = ℕ} (is_some o) 1 0) holds in
+        omega (arith, get_or-le-sum_by (λ (x : Option ℕ). cond (is_some x) 1 0) slots b None inside)
 
-      module _ (p : Pushed l stack count stack' count') where
-        pub detached_once : (m : ℕ) → m < leaf_count → holders (set slots b None) m + times m (listed stack' count') ≡ 1
-        detached_once m h =
-            let stored : holders (set slots b None) m + cond (eqb l m) 1 0 ≡ holders slots m + 0 = rw holds at (holders_set slots b inside None m) in
-            omega (arith, once m h, pushed_times m l stack count stack' count' p)
+    module _ (listed : left ≡ free ++ (l ∷ [])) where
+      pub detached_once : (m : ℕ) → m < leaf_count → holders (set slots b None) m + times m left ≡ 1
+      detached_once m h =
+          let stored : holders (set slots b None) m + cond (eqb l m) 1 0 ≡ holders slots m + 0 = rw holds at (holders_set slots b inside None m) in
+          omega (arith, once m h, ap (times m) listed, times_push m l free)
 
-        pub detached_all : count' + held (set slots b None) ≡ leaf_count
-        detached_all =
-            let stored : held (set slots b None) + 1 ≡ held slots + 0 = rw holds at (held_set slots b inside None) in
-            omega (arith, p.more)
+      pub detached_all : length left + held (set slots b None) ≡ leaf_count
+      detached_all =
+          let stored : held (set slots b None) + 1 ≡ held slots + 0 = rw holds at (held_set slots b inside None) in
+          omega (arith, ap length listed, length-append free (l ∷ []))
 
 -- a block that holds none loses none
 pub set_none : (slots : List (Option ℕ)) (b : ℕ) → leaf_of slots b ≡ None → slots ≡ set slots b None

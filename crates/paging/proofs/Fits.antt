@@ -1,11 +1,11 @@
 -- A range fits the two-level table exactly when the leaves that its blocks lack are free.
-use Rattle.std.proofs.Common.{◌≡◌, ℕ, zero, suc, ◌+◌, ◌-◌, ◌<◌, ◌≤◌, Bool, true, false, cond, not, ◌&&◌, leb, is_some, Some, None, Option, sym, refl, ap, ◌∙◌, ⊎_elim, arith}
+use Rattle.std.proofs.Common.{◌≡◌, ℕ, zero, suc, ◌+◌, ◌-◌, ◌<◌, ◌≤◌, Bool, true, false, cond, not, ◌&&◌, leb, is_some, Some, None, Ok, Err, Option, sym, refl, ap, ◌∙◌, ⊎_elim, arith}
 use Rattle.std.proofs.lemmas.Bool.{and_parts, cases_Bool, cases_lt, both_ways, le-leb, leb-true, lt-leb}
 use Rattle.std.proofs.lemmas.Bool.Decides.{nat_tests}
 use Rattle.paging.specs.declared.page.Fault.{Fault}
 use Rattle.paging.specs.Blocks.{first_block, past_block, span_end, span_start, two_level_pages}
 use Rattle.paging.specs.Ranges.{processes, ruled_out}
-use Rattle.paging.specs.Lacking.{block_fault, first_of, first_without, free_leaves, gets_none, lacking, lacks, span_lacks, two_level_fault, two_level_fits}
+use Rattle.paging.specs.Lacking.{block_fault, checked, first_of, first_without, free_leaves, gets_none, lacking, lacks, span_lacks, two_level_fault, two_level_fits}
 use Rattle.paging.specs.TwoLevelLawful.{none_found, some_found, span_ends, span_starts}
 use Rattle.paging.proofs.Counting.{count_more, count_none}
 use Rattle.paging.proofs.Spans.{gets_one}
@@ -44,6 +44,15 @@ module _ (holds : ℕ → Bool) (b : ℕ) where
       (λ (none : is_some (first_of (gets_none holds b) b n) ≡ false).
       none ∙ sym (ap not (le-leb (lacking holds b n) (free_leaves holds) (enough n (none_passes (gets_none holds b) n b none)))))
       (cases_Bool (is_some (first_of (gets_none holds b) b n)))
+
+-- what the answer of a check tells
+pub checked_fits : (o : Option Fault) (v : Unit {0}) → Ok v ≡ checked o → None ≡ o
+checked_fits None v e = refl
+checked_fits (Some f) v e = cc
+
+pub checked_fault : (o : Option Fault) (f : Fault) → Err f ≡ checked o → Some f ≡ o
+checked_fault None f e = cc
+checked_fault (Some g) f e = cc
 
 -- a fault is that of a block
 fault_some : (p : ℕ) (o : Option ℕ) → is_some (block_fault p o) ≡ is_some o

@@ -14,7 +14,8 @@ use Rattle.paging.specs.Lacking.{two_level_fault}
 use Rattle.paging.specs.LawfulParts.{unready_test}
 use Rattle.paging.specs.Ranges.{processes}
 use Rattle.paging.specs.States.{is_ready}
-use Rattle.paging.specs.TwoLevel.{block_ready, leaf_state, place_state, slots_of, two_level_ready, Used, words_in, words_of}
+use Rattle.paging.specs.Leaves.{leaf_state, words_in}
+use Rattle.paging.specs.TwoLevel.{block_ready, place_state, slots_of, two_level_ready, words_of}
 use Rattle.paging.specs.TwoLevelLawful.{none_found}
 use Rattle.paging.specs.Window.{ready_in, window_state}
 use Rattle.paging.specs.Word.{state_of}
@@ -33,14 +34,14 @@ words_long [] l inside = absurd (omega arith)
 words_long (f ∷ fs) zero inside = f.sized
 words_long (f ∷ fs) (suc l) inside = words_long fs l (omega arith)
 
-module _ (t : Levels) (used : Used (slots_of t) (words_of t)) where
+module _ (t : Levels) where
   -- a leaf that is held is one of the table's
   held_long : (b l : ℕ) → leaf_of (slots_of t) b ≡ Some l → length (get_or (words_of t) l []) ≡ block_pages
   held_long b l here =
       ⊎_elim (λ (inside : l < length t.leaves). words_long t.leaves l inside)
       (λ (past : length t.leaves ≤ l).
       let nothing : get_or (words_of t) l [] ≡ [] = get_or_past (words_of t) l [] (omega (arith, length-map t.leaves (λ (f : Leaf). f.words))) in
-      let some : 1 ≤ ready_in (get_or (words_of t) l []) = used b l here in
+      let some : 1 ≤ ready_in (get_or (words_of t) l []) = t.used b l here in
       let none : ready_in (get_or (words_of t) l []) ≡ 0 = ap ready_in nothing in
       absurd (omega arith))
       (cases_lt l (length t.leaves))
@@ -81,7 +82,7 @@ module _ (t : Levels) (used : Used (slots_of t) (words_of t)) where
       ap (λ (o : Option ℕ). is_ready (leaf_state (words_of t) o i)) (sym here) ∙ sym (block_page b i low high)
       ∙ none_passes (two_level_ready t (b / process_blocks)) block_pages (b % process_blocks * block_pages) not_found (b % process_blocks * block_pages + i) (omega arith)
       (omega arith)) in
-      let some : 1 ≤ ready_in (get_or (words_of t) l []) = used b l here in
+      let some : 1 ≤ ready_in (get_or (words_of t) l []) = t.used b l here in
       absurd (omega arith))
       (cases_Bool (block_ready (two_level_ready t) b))
 
@@ -105,6 +106,5 @@ module _ (t : Levels) (used : Used (slots_of t) (words_of t)) where
   fault_ready p a n o e = e ∙ ap (λ (h : ℕ → Bool). two_level_fault h p a n) held_ready
 
 -- as long as the blocks hold the same leaves, the same blocks have a ready page
-pub same_ready : (t u : Levels) → Used (slots_of t) (words_of t) → Used (slots_of u) (words_of u) → slots_of u ≡ slots_of t
-    → block_ready (two_level_ready u) ≡ block_ready (two_level_ready t)
-same_ready t u used used' same = sym (held_ready u used') ∙ ap holds same ∙ held_ready t used
+pub same_ready : (t u : Levels) → slots_of u ≡ slots_of t → block_ready (two_level_ready u) ≡ block_ready (two_level_ready t)
+same_ready t u same = sym (held_ready u) ∙ ap holds same ∙ held_ready t

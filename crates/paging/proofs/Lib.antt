@@ -1,6 +1,3 @@
-pub mod LetThrough
-pub mod Exact
-pub mod Parts
 pub mod Windows
 pub mod ReadyCounts
 pub mod FreeList

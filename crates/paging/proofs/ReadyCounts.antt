@@ -1,82 +1,49 @@
--- How many pages of a window are ready, as its words are rewritten one after the other.
-use Rattle.std.proofs.Common.{◌≡◌, ℕ, ◌+◌, ◌<◌, ◌≤◌, Bool, true, false, cond, not, ◌&&◌, List, map, length, get_or, set, MatchBool, sum, sym, refl, ap, ◌∙◌, ⊎_elim, arith}
-use mir.Val.{bool_byte}
-use Rattle.std.proofs.lemmas.List.{ext_get_or, get_or-map, length-map}
-use Rattle.std.proofs.lemmas.List.Sums.{sum-map, sum_by-set}
-use Rattle.std.proofs.lemmas.Bool.{and_parts, cases_eq, cond-false, cond-true}
+-- How many pages of a window are ready, as its words are rewritten.
+use Rattle.std.proofs.Common.{◌≡◌, ℕ, ◌+◌, ◌-◌, true, cond, List, [], ◌∷◌, map, replicate, length, take, drop, sum, Result, MatchResult, Ok, Err, sym, refl, ap, ◌∙◌, arith}
+use borrow.Rule.Slice.PartMut.{put_mid}
+use Rattle.std.proofs.lemmas.List.{get_or-map, length-map, same_lists}
+use Rattle.std.proofs.lemmas.List.Sums.{count_by-le-length, sum-map, sum_by-append, sum_by-cons, sum_by-take-drop}
+use Rattle.std.proofs.lemmas.List.Folds.{sum_by-replicate}
 use Rattle.std.proofs.lemmas.Bool.Decides.{nat_tests}
 use Rattle.paging.specs.declared.page.Entry.{Entry}
-use Rattle.paging.specs.Ranges.{within}
+use Rattle.paging.specs.declared.window.PutError.{PutError}
 use Rattle.paging.specs.States.{is_ready}
-use Rattle.paging.specs.Window.{readied, ready_in, replaced, Rewrites, window_state}
-use Rattle.paging.specs.Word.{absent_word, entry_word, state_of, storable, unready_word}
-use Rattle.paging.proofs.Exact.{stored}
+use Rattle.paging.specs.Window.{put_answer, readied, ready_in, replaced, Rewrites, window_state}
+use Rattle.paging.specs.Word.{entry_word, state_of, unready_word}
 
--- a test as a number
-byte_cond : (b : Bool) → bool_byte b ≡ cond b 1 0
-byte_cond true = refl
-byte_cond false = refl
-
-byte_not : (b : Bool) → bool_byte (not b) + cond b 1 0 ≡ 1
-byte_not true = refl
-byte_not false = refl
+-- one for the word of a ready page
+abbrev one : ℕ → ℕ
+one w = cond (is_ready (state_of w)) 1 0
 
 -- a word is ready once reserve has stored it
 pub readied_ready : (w : ℕ) → is_ready (state_of (readied w)) ≡ true
-readied_ready w = by_test (is_ready (state_of w)) refl
-  where
-    by_test : (b : Bool) → is_ready (state_of w) ≡ b → is_ready (state_of (cond b w absent_word)) ≡ true
-    by_test true e = e
-    by_test false e = refl
+readied_ready w = grind arith
 
-module _ (vs : List ℕ) (i : ℕ) (inside : i < length vs) where
-  -- what one word stored does to the count
-  ready_set : (v : ℕ) → ready_in (set vs i v) + cond (is_ready (state_of (get_or vs i 0))) 1 0 ≡ ready_in vs + cond (is_ready (state_of v)) 1 0
-  ready_set v = sum_by-set (λ (w : ℕ). cond (is_ready (state_of w)) 1 0) vs i v 0 inside
+-- all pages are ready that reserve made ready
+all_ready : (ws : List ℕ) → ready_in (map readied ws) ≡ length ws
+all_ready [] = refl
+all_ready (w ∷ ws) = grind (arith, sum_by-cons one (readied w) (map readied ws), all_ready ws)
 
-  -- a page is made ready
-  pub gained_more : (before k x v : ℕ) → x ≡ bool_byte (not (is_ready (state_of (get_or vs i 0)))) → v ≡ readied (get_or vs i 0) → ready_in vs ≡ before + k
-      → ready_in (set vs i v) ≡ before + (k + x)
-  gained_more before k x v e f so_far =
-      let now_ready : is_ready (state_of v) ≡ true = rw f (readied_ready (get_or vs i 0)) in
-      let stored : ready_in (set vs i v) + cond (is_ready (state_of (get_or vs i 0))) 1 0 ≡ ready_in vs + 1 = rw now_ready at (ready_set v) in
-      omega (arith, byte_not (is_ready (state_of (get_or vs i 0))))
+module _ (s k n : ℕ) (ws vs : List ℕ) (was : n ≡ ready_in (take k (drop s ws))) where
+  -- a part that is given back takes its ready pages with it
+  counted : ready_in (put_mid s k ws vs) + n ≡ ready_in ws + ready_in vs
+  counted = omega (arith, sum_by-append one, sum_by-take-drop one ws s, sum_by-take-drop one (drop s ws) k)
 
-  -- a page is made unready
-  pub lost_more : (before k x : ℕ) → x ≡ bool_byte (is_ready (state_of (get_or vs i 0))) → ready_in vs + k ≡ before
-      → ready_in (set vs i unready_word) + (k + x) ≡ before
-  lost_more before k x e so_far = omega (arith, ready_set unready_word, byte_cond (is_ready (state_of (get_or vs i 0))))
+  pub part_gained : vs ≡ map readied (take k (drop s ws)) → ready_in (put_mid s k ws vs) ≡ ready_in ws + (length (take k (drop s ws)) - n)
+  part_gained is =
+      let part : List ℕ = take k (drop s ws) in
+      omega (arith, counted, all_ready part, ap ready_in is, count_by-le-length (λ (w : ℕ). is_ready (state_of w)) part)
 
--- one page is one at most
-pub byte_small : (b : Bool) → bool_byte b ≤ 1
-byte_small true = omega arith
-byte_small false = omega arith
-
--- two windows whose pages are ready alike have as many of them
-ready_alike : (ws vs : List ℕ) → length vs ≡ length ws
-    → ((k : ℕ) → k < length ws → is_ready (state_of (get_or vs k 0)) ≡ is_ready (state_of (get_or ws k 0))) → ready_in vs ≡ ready_in ws
-ready_alike ws vs long h =
-    let one : ℕ → ℕ = λ w. cond (is_ready (state_of w)) 1 0 in
-    let alike : map one vs ≡ map one ws =
-    ext_get_or 0 (map one vs) (map one ws) (length-map vs one ∙ long ∙ sym (length-map ws one))
-    (λ k inside.
-    let low : k < length vs = omega (arith, length-map vs one) in
-    get_or-map one vs k 0 0 low ∙ ap (λ (b : Bool). cond b 1 0) (h k (omega arith)) ∙ sym (get_or-map one ws k 0 0 (omega arith))) in
-    sym (sum-map one vs) ∙ ap (λ (xs : List ℕ). sum xs) alike ∙ sum-map one ws
+  pub part_lost : vs ≡ replicate (length (take k (drop s ws))) unready_word → ready_in (put_mid s k ws vs) + n ≡ ready_in ws
+  part_lost is = omega (arith, counted, ap ready_in is, sum_by-replicate one (length (take k (drop s ws))) unready_word)
 
 -- an entry that replaces another leaves the count
-pub put_alike : (e : Entry) (q : ℕ) (ws vs : List ℕ) (done : Bool) → done ≡ (is_ready (window_state ws q) && storable e)
-    → MatchBool done (Rewrites (replaced e) q 1 ws vs) (vs ≡ ws) → ready_in vs ≡ ready_in ws
-put_alike e q ws vs false _ same = ap ready_in same
-put_alike e q ws vs true can w =
-    let parts = and_parts (is_ready (window_state ws q)) (storable e) (sym can) in
-    ready_alike ws vs w.long
-    (λ k inside. ⊎_elim
-    (λ (here : k ≡ q).
-    let one : within q 1 k ≡ true = grind (arith, nat_tests) in
-    let stored_here : get_or vs k 0 ≡ entry_word e = w.words k inside ∙ cond-true (within q 1 k) (entry_word e) (get_or ws k 0) one in
-    rw (stored_here, stored e parts.1, here) (sym parts.0))
-    (λ other.
-    let none : within q 1 k ≡ false = grind (arith, nat_tests) in
-    ap (λ (x : ℕ). is_ready (state_of x)) (w.words k inside ∙ cond-false (within q 1 k) (entry_word e) (get_or ws k 0) none))
-    (cases_eq k q))
+pub put_alike : (e : Entry) (q : ℕ) (ws vs : List ℕ) (r : Result (Unit {0}) PutError) → r ≡ put_answer (window_state ws q) e
+    → MatchResult r (λ _. Rewrites (replaced e) q 1 ws vs) (λ _. vs ≡ ws) → ready_in vs ≡ ready_in ws
+put_alike e q ws vs (Err x) is same = ap ready_in same
+put_alike e q ws vs (Ok u) is w =
+    let means : is_ready (window_state ws q) ≡ is_ready (state_of (entry_word e)) = grind (arith, nat_tests) in
+    let alike : map one vs ≡ map one ws =
+    same_lists _ _ (length-map vs one ∙ w.long ∙ sym (length-map ws one))
+    (λ k d h. grind (arith, nat_tests, w.words k, length-map vs one, get_or-map one vs k 0 d, get_or-map one ws k 0 d)) in
+    sym (sum-map one vs) ∙ ap (λ (xs : List ℕ). sum xs) alike ∙ sum-map one ws

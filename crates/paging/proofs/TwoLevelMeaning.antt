@@ -1,5 +1,5 @@
 -- What the two-level table does to the states of places is the effect on its meaning.
-use Rattle.std.proofs.Common.{◌≡◌, ℕ, ◌+◌, ◌/◌, ◌%◌, ◌<◌, ◌≤◌, min, Bool, true, false, cond, ◌&&◌, eqb, ltb, List, replicate, Some, None, MatchBool, Option, sym, refl, ap, ◌∙◌, ⊎_elim, arith}
+use Rattle.std.proofs.Common.{◌≡◌, ℕ, ◌+◌, ◌/◌, ◌%◌, ◌<◌, ◌≤◌, min, Bool, true, false, cond, ◌&&◌, eqb, ltb, List, replicate, Some, None, Ok, Err, MatchResult, Option, Result, sym, refl, ap, ◌∙◌, ⊎_elim, arith}
 use Rattle.std.proofs.lemmas.List.{get_or_past, get_or-replicate, length-replicate}
 use Rattle.std.proofs.lemmas.Bool.{and_parts, cases_Bool, cases_lt, cond-false, cond-true, ltb-true}
 use Rattle.std.proofs.lemmas.Bool.Decides.{nat_tests}
@@ -8,15 +8,17 @@ use Rattle.paging.specs.declared.page.Entry.{Entry}
 use Rattle.paging.specs.declared.page.Fault.{Fault}
 use Rattle.paging.specs.declared.page.PageState.{PageState}
 use Rattle.paging.specs.declared.page.PageState.TheVariants.{Unready, Ready}
-use Rattle.paging.specs.Blocks.{between, block_pages, blocks, known, place, span_end, span_start, two_level_pages}
+use Rattle.paging.specs.declared.window.PutError.{PutError}
+use Rattle.paging.specs.Blocks.{between, block_pages, blocks, known, known_place, place, span_end, span_start, two_level_pages}
 use Rattle.paging.specs.Directory.{leaf_of}
 use Rattle.paging.specs.Effects.{can_put, Releases, Replaced, Reserved, Unfit}
 use Rattle.paging.specs.Lacking.{two_level_fault}
 use Rattle.paging.specs.Meaning.{Meaning}
 use Rattle.paging.specs.Ranges.{processes, in_range, ruled_out}
 use Rattle.paging.specs.States.{by_states, is_ready, made_ready, made_unready}
-use Rattle.paging.specs.TwoLevel.{block_ready, Changed, leaf_state, place_state, slots_of, state_at, two_level, two_level_ready, two_level_state, Used, words_of}
-use Rattle.paging.specs.Word.{storable}
+use Rattle.paging.specs.Leaves.{leaf_state, state_at, Used}
+use Rattle.paging.specs.TwoLevel.{block_ready, Changed, place_state, slots_of, two_level, two_level_ready, two_level_state, words_of}
+use Rattle.paging.specs.Window.{put_answer}
 use Rattle.paging.proofs.Held.{same_ready}
 use Rattle.paging.proofs.Lifts.{lift_reserve, lift_release, lift_put}
 
@@ -110,24 +112,33 @@ same_meaning t u slots words =
     ap (λ (ss : List (Option ℕ)). by ss (words_of u)) slots ∙ ap (by (slots_of t)) words
 
 -- an entry is put at place x, where page q of process p lies
-module _ (p q : ℕ) (e : Entry) (t u : Levels) (x : ℕ) (spot : place p q ≡ x) (inside_it : known p q ≡ true) where
-  pub two_level_can : (done : Bool) → done ≡ (is_ready (place_state t x) && storable e) → done ≡ can_put (two_level t) p q e
-  two_level_can done can =
-      can ∙ sym (ap (λ (s : PageState). is_ready s && storable e) (known_state t p q inside_it ∙ ap (place_state t) spot))
+module _ (p q : ℕ) (e : Entry) (t u : Levels) (x : ℕ) (spot : Some x ≡ known_place p q) where
+  inside_it : known p q ≡ true
+  inside_it = grind (arith, nat_tests)
 
-  pub two_level_puts : (done : Bool) → done ≡ (is_ready (place_state t x) && storable e) → slots_of u ≡ slots_of t
-      → Used (slots_of t) (words_of t) → Used (slots_of u) (words_of u)
-      → MatchBool done (Changed (λ _. Ready e) (λ y. eqb y x) t u) (words_of u ≡ words_of t) → MatchBool done (Replaced (two_level t) p q e (two_level u)) (two_level u ≡ two_level t)
-  two_level_puts false can slots used used' words = same_meaning t u slots words
-  two_level_puts true can slots used used' changed =
+  here : place p q ≡ x
+  here = grind (arith, nat_tests)
+
+  page_state : two_level_state t p q ≡ place_state t x
+  page_state = known_state t p q inside_it ∙ ap (place_state t) here
+
+  pub two_level_puts : (r : Result (Unit {0}) PutError) → r ≡ put_answer (place_state t x) e → slots_of u ≡ slots_of t
+      → MatchResult r (λ _. Changed (λ _. Ready e) (λ y. eqb y x) t u) (λ _. words_of u ≡ words_of t)
+      → MatchResult r (λ _. Replaced (two_level t) p q e (two_level u)) (λ _. (can_put (two_level t) p q e ≡ false) × (two_level u ≡ two_level t))
+  two_level_puts (Err f) answer slots words =
+      (let same = page_state in grind arith, same_meaning t u slots words)
+  two_level_puts (Ok v) answer slots changed =
+      let can : can_put (two_level t) p q e ≡ true = let same = page_state in grind arith in
       lift_put (two_level_state t) (two_level_state u) (two_level_fault (block_ready (two_level_ready t)))
-      (two_level_fault (block_ready (two_level_ready u))) p q e (sym (two_level_can true can)) (ap two_level_fault (same_ready t u used used' slots))
+      (two_level_fault (block_ready (two_level_ready u))) p q e can (ap two_level_fault (same_ready t u slots))
       (λ r s. pages_change (λ _. Ready e) (λ y. eqb y x) t u changed r s (eqb r p && eqb s q)
-      (λ here.
-      let high : s < two_level_pages = ltb-true s two_level_pages (and_parts (ltb r processes) (ltb s two_level_pages) here).1 in
+      (λ known_it.
+      let high : s < two_level_pages = ltb-true s two_level_pages (and_parts (ltb r processes) (ltb s two_level_pages) known_it).1 in
       let high' : q < two_level_pages = ltb-true q two_level_pages (and_parts (ltb p processes) (ltb q two_level_pages) inside_it).1 in
+      let spot' = here in
       let alike : eqb (place r s) x ≡ (eqb r p && eqb s q) = grind (arith, nat_tests) in alike)
       (λ outside_it.
+      let inside' = inside_it in
       let out : (eqb r p && eqb s q) ≡ false = grind (arith, nat_tests) in
       cond-false (eqb r p && eqb s q) (Ready e) Unready out))
 

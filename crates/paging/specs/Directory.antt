@@ -1,5 +1,5 @@
 -- The directory: which leaf each block holds, and which leaves are free.
-use Rattle.std.specs.Prelude.{◌≡◌, ℕ, ◌+◌, Bool, false, cond, ◌≢◌, List, is_some, Some, None, count_by, Option, ◌==◌, slice_index_or}
+use Rattle.std.specs.Prelude.{◌≡◌, ℕ, ◌+◌, Bool, false, cond, ◌≢◌, List, is_some, Some, None, count_by, Option, ◌==◌, nat_eq, slice_index_or}
 use Rattle.paging.specs.Lacking.{lacks}
 
 -- the leaf that block b holds
@@ -14,6 +14,10 @@ is_leaf l (Some m) = m == l
 -- how many blocks hold leaf l
 abbrev pub holders : List (Option ℕ) → ℕ → ℕ
 holders slots l = count_by (is_leaf l) slots
+
+-- how often leaf l is listed
+abbrev pub times : ℕ → List ℕ → ℕ
+times l xs = count_by (λ x. nat_eq x l) xs
 
 -- how many blocks hold a leaf
 abbrev pub held : List (Option ℕ) → ℕ

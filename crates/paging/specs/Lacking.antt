@@ -1,5 +1,5 @@
 -- Which ranges fit the two-level table, by the blocks that hold a leaf: the leaves that a range lacks, and the first block that gets none.
-use Rattle.std.specs.Prelude.{ℕ, zero, suc, ◌+◌, ◌-◌, ◌*◌, ◌%◌, Bool, cond, not, ◌&&◌, Some, None, Option, nat_le}
+use Rattle.std.specs.Prelude.{ℕ, zero, suc, ◌+◌, ◌-◌, ◌*◌, ◌%◌, Bool, cond, not, ◌&&◌, Some, None, Option, Result, Ok, Err, nat_le}
 use Rattle.paging.specs.declared.page.Fault.{Fault}
 use Rattle.paging.specs.Blocks.{block_pages, blocks, first_block, leaf_count, past_block, process_blocks, span_end, span_start, two_level_pages}
 use Rattle.paging.specs.Ranges.{ruled_out}
@@ -52,3 +52,8 @@ two_level_fault holds p a n =
 abbrev pub two_level_fits : (ℕ → Bool) → ℕ → ℕ → ℕ → Bool
 two_level_fits holds p a n =
     not (ruled_out two_level_pages p a n) && nat_le (span_lacks holds (span_start p a) (span_end p a n)) (free_leaves holds)
+
+-- the answer of a check: the fault, if there is one
+abbrev pub checked : Option Fault → Result (Unit {0}) Fault
+checked None = Ok tt
+checked (Some f) = Err f

@@ -8,8 +8,8 @@ pub mod Window
 pub mod Flat
 pub mod Blocks
 pub mod Lacking
-pub mod Listed
 pub mod Directory
+pub mod Leaves
 pub mod TwoLevel
 pub mod LawfulParts
 pub mod TwoLevelLawful

@@ -1,5 +1,6 @@
-// The stored word of a page's state, and what each word means.
+// The stored word of a page's state, and what each word means: the conversions there and back.
 ghost use Rattle.std.specs.Prelude.{◌≡◌};
+ghost use Rattle.std.specs.Result.{result_ok};
 ghost use Rattle.paging.specs.Word.{Exact, state_of, word_of};
 
 use crate::page::{Entry, PageState};
@@ -16,7 +17,7 @@ const WRITE_BIT: u32 = ACCESSED_BIT + 1;
 
 const KIND_BIT: u32 = WRITE_BIT + 1;
 
-// The kinds: 0 is unready, and 3 has no use.
+// The kinds: 0 is unready, and 3 has no use. Numbers, as they are bits of the word: an enum of them would be PageState once more, told apart by the same numbers.
 const ABSENT: Word = 1;
 
 const PRESENT: Word = 2;
@@ -32,41 +33,52 @@ const FRAMES: Word = 1 << FRAME_BITS;
 // The greatest frame that an entry can hold.
 pub const MAX_FRAME: u32 = FRAMES as u32 - 1;
 
-// The word of a state; none where the frame is too large for one.
-pub fn encode(state: PageState) -> Option<Word>
-    ensures { result ≡ word_of state }
-{
-    match state {
-        PageState::Unready => Some(UNREADY),
-        PageState::Ready(Entry::Absent) => Some(READY_ABSENT),
-        PageState::Ready(
-            Entry::Present {
-                frame,
-                write,
-                accessed,
-            },
-        ) => {
-            if frame > MAX_FRAME {
-                return None;
+// Why a state has no word: its frame is greater than any that an entry can hold.
+#[derive(Clone, Copy, PartialEq, Eq, Debug)]
+pub struct FrameTooLarge;
+
+// The word of a state.
+impl TryFrom<PageState> for Word {
+    type Error = FrameTooLarge;
+
+    ghost try_from_gives = { λ state r. result_ok r ≡ word_of state };
+
+    fn try_from(state: PageState) -> Result<Word, FrameTooLarge> {
+        match state {
+            PageState::Unready => Ok(UNREADY),
+            PageState::Ready(Entry::Absent) => Ok(READY_ABSENT),
+            PageState::Ready(
+                Entry::Present {
+                    frame,
+                    write,
+                    accessed,
+                },
+            ) => {
+                if frame > MAX_FRAME {
+                    return Err(FrameTooLarge);
+                }
+                let flags = (Word::from(write) << WRITE_BIT)
+                    + (Word::from(accessed) << ACCESSED_BIT);
+                Ok((PRESENT << KIND_BIT) + flags + frame as Word)
             }
-            let flags = (Word::from(write) << WRITE_BIT) + (Word::from(accessed) << ACCESSED_BIT);
-            Some((PRESENT << KIND_BIT) + flags + frame as Word)
         }
     }
 }
 
 // What a word means: a word that no state has counts as unready.
-pub fn decode(word: Word) -> PageState
-    ensures { result ≡ state_of word }
-{
-    match word >> KIND_BIT {
-        ABSENT if word == READY_ABSENT => PageState::Ready(Entry::Absent),
-        PRESENT => PageState::Ready(Entry::Present {
-            frame: u32::from(word % FRAMES),
-            write: (word >> WRITE_BIT) % 2 == 1,
-            accessed: (word >> ACCESSED_BIT) % 2 == 1,
-        }),
-        _ => PageState::Unready,
+impl From<Word> for PageState {
+    ghost from_gives = { λ word state. state ≡ state_of word };
+
+    fn from(word: Word) -> Self {
+        match word >> KIND_BIT {
+            ABSENT if word == READY_ABSENT => PageState::Ready(Entry::Absent),
+            PRESENT => PageState::Ready(Entry::Present {
+                frame: u32::from(word % FRAMES),
+                write: (word >> WRITE_BIT) % 2 == 1,
+                accessed: (word >> ACCESSED_BIT) % 2 == 1,
+            }),
+            _ => PageState::Unready,
+        }
     }
 }
 

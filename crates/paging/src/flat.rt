@@ -1,13 +1,13 @@
 // The flat table: a word for each page of each process, in memory that its owner hands over.
-ghost use Rattle.std.specs.Prelude.{◌≡◌, MatchBool};
-ghost use Rattle.paging.specs.Effects.{can_put, Puts, Releases, Reserves};
-ghost use Rattle.paging.specs.Flat.{flat, flat_fits, flat_pages, flat_state, window_start, Wrote, WroteIf};
+ghost use Rattle.std.specs.Prelude.{◌≡◌};
+ghost use Rattle.paging.specs.Effects.{Puts, Releases, Reserves};
+ghost use Rattle.paging.specs.Flat.{flat, flat_pages, flat_state, window_start, Wrote, WroteIf};
 ghost use Rattle.paging.specs.FlatLawful.{flat_lawful};
 ghost use Rattle.paging.specs.Window.{readied, replaced, unreadied};
 
 use crate::codec::Word;
 use crate::page::{Entry, Fault, PageState};
-use crate::range::ruled_out;
+use crate::range::PageRange;
 use crate::table::{PROCESSES, PageTable};
 use crate::window;
 
@@ -53,13 +53,7 @@ impl<'a> PageTable for FlatTable<'a> {
         ensures wrote { WroteIf result readied process first count self.old.words.now self.new.words.now }
         ensures lender { self.new.words.ghost_name ≡ self.old.words.ghost_name }
     {
-        if reserve_in(self.words, process, first, count) {
-            return Ok(());
-        }
-        Err(Fault {
-            process,
-            page: first,
-        })
+        reserve_in(self.words, PageRange::new(process, first, count))
     }
 
     fn release(&mut self, process: u32, first: u32, count: u32)
@@ -67,14 +61,11 @@ impl<'a> PageTable for FlatTable<'a> {
         ensures wrote { Wrote unreadied process first count self.old.words.now self.new.words.now }
         ensures lender { self.new.words.ghost_name ≡ self.old.words.ghost_name }
     {
-        release_in(self.words, process, first, count);
+        release_in(self.words, PageRange::new(process, first, count));
     }
 
     fn look(&self, process: u32, page: u32) -> Entry {
-        match look_in(self.words, process, page) {
-            PageState::Unready => Entry::Absent,
-            PageState::Ready(entry) => entry,
-        }
+        look_in(self.words, process, page).entry()
     }
 
     fn put(&mut self, process: u32, page: u32, entry: Entry) -> Result<(), Fault>
@@ -82,10 +73,7 @@ impl<'a> PageTable for FlatTable<'a> {
         ensures wrote { WroteIf result (replaced entry) process page 1 self.old.words.now self.new.words.now }
         ensures lender { self.new.words.ghost_name ≡ self.old.words.ghost_name }
     {
-        if put_in(self.words, process, page, entry) {
-            return Ok(());
-        }
-        Err(Fault { process, page })
+        put_in(self.words, process, page, entry)
     }
 }
 
@@ -110,36 +98,33 @@ fn look_in(words: &[Word], process: u32, page: u32) -> PageState
 }
 
 // Hands the process's window on. Without one there is no page to put an entry at.
-fn put_in(words: &mut [Word], process: u32, page: u32, entry: Entry) -> bool
-    ensures done { result ≡ can_put (flat words.old) process page entry }
-    ensures after { MatchBool result (Wrote (replaced entry) process page 1 words.old words.new) (words.new ≡ words.old) }
+fn put_in(words: &mut [Word], process: u32, page: u32, entry: Entry) -> Result<(), Fault>
+    ensures puts { Puts (flat words.old) process page entry result (flat words.new) }
+    ensures wrote { WroteIf result (replaced entry) process page 1 words.old words.new }
 {
-    let Some(start) = window_start(words, process) else {
-        return false;
-    };
-    window::put(&mut words[start..start + WINDOW], page, entry)
+    let fault = Fault { process, page };
+    let start = window_start(words, process).ok_or(fault)?;
+    window::put(&mut words[start..start + WINDOW], page, entry).map_err(|_| fault)
 }
 
 // Hands the process's window on, unless the range is ruled out.
-fn reserve_in(words: &mut [Word], process: u32, first: u32, count: u32) -> bool
-    ensures done { result ≡ flat_fits words.old process first count }
-    ensures after { MatchBool result (Wrote readied process first count words.old words.new) (words.new ≡ words.old) }
+fn reserve_in(words: &mut [Word], range: PageRange) -> Result<(), Fault>
+    ensures reserves { Reserves (flat words.old) range.process range.pages.first range.pages.count result (flat words.new) }
+    ensures wrote { WroteIf result readied range.process range.pages.first range.pages.count words.old words.new }
 {
-    if ruled_out(<FlatTable<'_> as PageTable>::PAGES, process, first, count) {
-        return false;
+    if range.is_ruled_out(<FlatTable<'_> as PageTable>::PAGES) {
+        return Err(range.fault());
     }
-    let Some(start) = window_start(words, process) else {
-        return false;
-    };
-    window::reserve(&mut words[start..start + WINDOW], first, count);
-    true
+    let start = window_start(words, range.process).ok_or(range.fault())?;
+    window::reserve(&mut words[start..start + WINDOW], range.pages);
+    Ok(())
 }
 
 // Hands the process's window on. Without one there is nothing to release.
-fn release_in(words: &mut [Word], process: u32, first: u32, count: u32)
-    ensures { Wrote unreadied process first count words.old words.new }
+fn release_in(words: &mut [Word], range: PageRange)
+    ensures { Wrote unreadied range.process range.pages.first range.pages.count words.old words.new }
 {
-    if let Some(start) = window_start(words, process) {
-        window::release(&mut words[start..start + WINDOW], first, count);
+    if let Some(start) = window_start(words, range.process) {
+        window::release(&mut words[start..start + WINDOW], range.pages);
     }
 }

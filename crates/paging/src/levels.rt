@@ -1,31 +1,36 @@
 // The two levels: the directory that finds a block's leaf, and the leaves.
-ghost use Rattle.std.specs.Prelude.{◌≡◌, ◌<◌, ◌≤◌, false, ◌&&◌, length, replicate, Some, None, MatchBool, nat_eq};
+ghost use Rattle.std.specs.Prelude.{◌≡◌, ◌<◌, ◌≤◌, length, replicate, None, MatchResult, nat_eq, option_map};
 ghost use Rattle.paging.specs.declared.page.PageState.TheVariants.{Ready};
 ghost use Rattle.paging.specs.Blocks.{between, blocks, in_block, leaf_count, Meets};
 ghost use Rattle.paging.specs.Directory.{Attached, held, holds, leaf_of};
-ghost use Rattle.paging.specs.Lacking.{first_without, free_leaves, span_lacks, two_level_fault};
-ghost use Rattle.paging.specs.States.{is_ready, made_ready, made_unready};
-ghost use Rattle.paging.specs.TwoLevel.{Changed, place_state, slots_of, Sound, UsedBut, words_of};
-ghost use Rattle.paging.specs.Word.{storable};
+ghost use Rattle.paging.specs.Lacking.{checked, first_without, free_leaves, span_lacks, two_level_fault};
+ghost use Rattle.paging.specs.Leaves.{Used, words_in};
+ghost use Rattle.paging.specs.States.{made_ready, made_unready};
+ghost use Rattle.paging.specs.Window.{put_answer};
 
-use crate::directory::Directory;
-use crate::free::{LEAVES, LeafNumber};
+use crate::directory::{Directory, LEAVES};
 use crate::leaf::Leaf;
 use crate::page::{Entry, Fault, PageState};
-use crate::place::{BLOCK_PAGES, PAGES, Part, Span, first_page};
-use crate::range::ruled_out;
+use crate::place::{Block, PAGES, Place, Span};
+use crate::range::PageRange;
+use crate::window::PutError;
 
 #[derive(Drop)]
 pub(crate) struct Levels {
     directory: Directory,
+    // A block holds the number of one of these, and no box: the table's memory is fixed.
     leaves: [Leaf; LEAVES],
+    ghost sized: { length leaves ≡ leaf_count },
+    // A leaf that a block holds has a ready page.
+    ghost used: { Used directory.slots (words_in leaves) },
 }
 
 impl Levels {
+    ghost use Rattle.paging.specs.TwoLevel.{Changed, place_state, slots_of, words_of};
+
     // No block holds a leaf.
     pub(crate) fn new() -> Self
-        ensures sound { Sound result }
-        ensures slots { slots_of result ≡ replicate blocks None }
+        ensures { slots_of result ≡ replicate blocks None }
     {
         Levels {
             directory: Directory::new(),
@@ -34,84 +39,67 @@ impl Levels {
     }
 
     // The state of the page at a place.
-    pub(crate) fn look(&self, place: usize) -> PageState
-        ensures { result ≡ place_state self.now place }
+    pub(crate) fn look(&self, place: Place) -> PageState
+        ensures { result ≡ place_state self.now place.index }
     {
-        match self.directory.leaf_of(place / BLOCK_PAGES) {
-            Some(leaf) => self.leaves[leaf as usize].look((place % BLOCK_PAGES) as u32),
+        match self.directory.leaf_of(place.block()) {
+            Some(leaf) => self.leaves[usize::from(leaf)].look(place.page()),
             None => PageState::Unready,
         }
     }
 
-    // Replaces the entry of a ready page. False where the page is not ready or the frame is too large.
-    pub(crate) fn put(&mut self, place: usize, entry: Entry) -> bool
-        requires { Sound self.old }
-        ensures sound { Sound self.new }
-        ensures done { result ≡ (is_ready (place_state self.old place) && storable entry) }
+    // Replaces the entry of a ready page.
+    pub(crate) fn put(&mut self, place: Place, entry: Entry) -> Result<(), PutError>
+        ensures answer { result ≡ put_answer (place_state self.old place.index) entry }
         ensures slots { slots_of self.new ≡ slots_of self.old }
-        ensures states { MatchBool result (Changed (λ _. Ready entry) (λ x. nat_eq x place) self.old self.new) (words_of self.new ≡ words_of self.old) }
+        ensures states { MatchResult result (λ _. Changed (λ _. Ready entry) (λ x. nat_eq x place.index) self.old self.new) (λ _. words_of self.new ≡ words_of self.old) }
     {
-        match self.directory.leaf_of(place / BLOCK_PAGES) {
-            Some(leaf) => self.leaves[leaf as usize].put((place % BLOCK_PAGES) as u32, entry),
-            None => false,
+        let Levels { directory, leaves } = self;
+        match directory.leaf_of(place.block()) {
+            Some(leaf) => leaves[usize::from(leaf)].put(place.page(), entry),
+            None => Err(PutError::Unready),
         }
     }
 
-    // The leaf of a block. A block that lacks one gets one, of which no page is ready.
-    fn leaf_for(&mut self, block: usize) -> LeafNumber
-        requires sound { Sound self.old }
-        requires inside { block < blocks }
-        requires free { leaf_of (slots_of self.old) block ≡ None → held (slots_of self.old) < leaf_count }
-        ensures leaf { leaf_of (slots_of self.new) block ≡ Some result }
-        ensures states { Changed (λ s. s) (λ _. false) self.old self.new }
-        ensures attached { Attached block (slots_of self.old) (slots_of self.new) }
-        ensures sized { length self.new.leaves ≡ leaf_count }
-        ensures used { UsedBut block (slots_of self.new) (words_of self.new) }
+    // Makes the pages of the block ready that lie in the span, of which there are some. A block that lacks a leaf gets one.
+    fn reserve_in(&mut self, block: Block, span: Span)
+        requires some { Meets block.number span.start span.end }
+        requires free { leaf_of (slots_of self.old) block.number ≡ None → held (slots_of self.old) < leaf_count }
+        ensures states { Changed made_ready (in_block block.number span.start span.end) self.old self.new }
+        ensures attached { Attached block.number (slots_of self.old) (slots_of self.new) }
     {
-        if let Some(leaf) = self.directory.leaf_of(block) {
-            return leaf;
+        let pages = block.pages_in(span);
+        let Levels { directory, leaves } = self;
+        match directory.leaf_of(block) {
+            Some(leaf) => leaves[usize::from(leaf)].reserve(pages),
+            None => {
+                let mut fresh = Leaf::empty();
+                fresh.reserve(pages);
+                leaves[usize::from(directory.attach(block))] = fresh;
+            }
         }
-        let leaf = self.directory.attach(block);
-        self.leaves[leaf as usize] = Leaf::empty();
-        leaf
-    }
-
-    // Makes the pages of the block ready that lie in the span, of which there are some.
-    fn reserve_in(&mut self, block: usize, span: Span)
-        requires sound { Sound self.old }
-        requires inside { block < blocks }
-        requires some { Meets block span.start span.end }
-        requires free { leaf_of (slots_of self.old) block ≡ None → held (slots_of self.old) < leaf_count }
-        ensures sound { Sound self.new }
-        ensures states { Changed made_ready (in_block block span.start span.end) self.old self.new }
-        ensures attached { Attached block (slots_of self.old) (slots_of self.new) }
-    {
-        let Part { first, count } = Part::of(block, span);
-        let leaf = self.leaf_for(block);
-        self.leaves[leaf as usize].reserve(first, count);
     }
 
     // Makes the pages of the block unready that lie in the span. A leaf without a ready page is given back.
-    fn release_in(&mut self, block: usize, span: Span)
-        requires sound { Sound self.old }
-        requires inside { block < blocks }
-        ensures sound { Sound self.new }
-        ensures states { Changed made_unready (in_block block span.start span.end) self.old self.new }
+    fn release_in(&mut self, block: Block, span: Span)
+        ensures { Changed made_unready (in_block block.number span.start span.end) self.old self.new }
     {
-        let Part { first, count } = Part::of(block, span);
-        if let Some(leaf) = self.directory.leaf_of(block) {
-            if self.leaves[leaf as usize].release(first, count) {
-                self.directory.detach(block);
+        let pages = block.pages_in(span);
+        let Levels { directory, leaves } = self;
+        if let Some(leaf) = directory.leaf_of(block) {
+            if leaves[usize::from(leaf)].release(pages) {
+                directory.detach(block);
             }
         }
     }
 
     // The first block of the span that gets no leaf: those that hold one are passed over, and each other one takes a free one.
-    fn first_without(&self, span: Span) -> Option<usize>
-        ensures { result ≡ first_without (holds (slots_of self.now)) span.start span.end }
+    fn first_without(&self, span: Span) -> Option<Block>
+        ensures { option_map (λ block. block.number) result ≡ first_without (holds (slots_of self.now)) span.start span.end }
     {
         let mut left = self.directory.free_leaves();
-        for block in span.first_block()..span.past_block() {
+        for number in span.first_block()..span.past_block() {
+            let block = Block { number };
             let lacked = self.directory.lacking(block);
             if lacked > left {
                 return Some(block);
@@ -121,44 +109,39 @@ impl Levels {
         None
     }
 
-    // The fault of a range that does not fit.
-    pub(crate) fn fault(&self, process: u32, first: u32, count: u32) -> Option<Fault>
-        ensures { result ≡ two_level_fault (holds (slots_of self.now)) process first count }
+    // Whether a range fits, or else its fault.
+    pub(crate) fn check(&self, range: PageRange) -> Result<(), Fault>
+        ensures { result ≡ checked (two_level_fault (holds (slots_of self.now)) range.process range.pages.first range.pages.count) }
     {
-        if ruled_out(PAGES, process, first, count) {
-            return Some(Fault {
-                process,
-                page: first,
-            });
+        if range.is_ruled_out(PAGES) {
+            return Err(range.fault());
         }
-        let block = self.first_without(Span::of(process, first, count))?;
-        Some(Fault {
-            process,
-            page: first_page(block),
-        })
+        match self.first_without(Span::of(range)) {
+            Some(block) => Err(Fault {
+                process: range.process,
+                page: block.first_page(),
+            }),
+            None => Ok(()),
+        }
     }
 
     // Makes the pages of the span ready. There are leaves for the blocks that lack one.
     pub(crate) fn reserve(&mut self, span: Span)
-        requires sound { Sound self.old }
         requires some { span.start < span.end }
         requires free { span_lacks (holds (slots_of self.old)) span.start span.end ≤ free_leaves (holds (slots_of self.old)) }
-        ensures sound { Sound self.new }
-        ensures states { Changed made_ready (between span.start span.end) self.old self.new }
+        ensures { Changed made_ready (between span.start span.end) self.old self.new }
     {
-        for block in span.first_block()..span.past_block() {
-            self.reserve_in(block, span);
+        for number in span.first_block()..span.past_block() {
+            self.reserve_in(Block { number }, span);
         }
     }
 
     // Makes the pages of the span unready and absent.
     pub(crate) fn release(&mut self, span: Span)
-        requires { Sound self.old }
-        ensures sound { Sound self.new }
-        ensures states { Changed made_unready (between span.start span.end) self.old self.new }
+        ensures { Changed made_unready (between span.start span.end) self.old self.new }
     {
-        for block in span.first_block()..span.past_block() {
-            self.release_in(block, span);
+        for number in span.first_block()..span.past_block() {
+            self.release_in(Block { number }, span);
         }
     }
 }

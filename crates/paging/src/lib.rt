@@ -4,7 +4,6 @@
 mod codec;
 mod directory;
 mod flat;
-mod free;
 mod leaf;
 mod levels;
 mod page;
@@ -14,7 +13,7 @@ mod table;
 mod two_level;
 mod window;
 
-pub use codec::{MAX_FRAME, Word, codec_is_exact, decode, encode};
+pub use codec::{FrameTooLarge, MAX_FRAME, Word, codec_is_exact};
 pub use flat::FlatTable;
 pub use page::{Entry, Fault, PageState};
 pub use table::{PROCESSES, PageTable};

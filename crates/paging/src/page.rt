@@ -1,11 +1,11 @@
 // What a page table says of a page.
 ghost use Rattle.std.specs.Prelude.{◌≡◌, Some};
 ghost use Rattle.paging.specs.Shown.{entry_text, fault_text, flag_text};
-ghost use Rattle.paging.specs.States.{entry_of};
+ghost use Rattle.paging.specs.States.{entry_of, is_ready};
 
 use std::fmt;
 
-// What a page maps: nothing, or a frame with its two bits.
+// What a page maps: nothing, or a frame with its two bits. No Option, which is not the crate's own and could not be printed as an entry is.
 #[derive(Clone, Copy, PartialEq, Eq, Debug)]
 pub enum Entry {
     Absent,
@@ -16,7 +16,20 @@ pub enum Entry {
     },
 }
 
-// A page in a table: not ready for an entry, or ready with the one that it has.
+impl Entry {
+    // The frame with its two bits.
+    pub fn present(frame: u32, write: bool, accessed: bool) -> Self
+        ensures { result ≡ Entry.Present frame write accessed }
+    {
+        Entry::Present {
+            frame,
+            write,
+            accessed,
+        }
+    }
+}
+
+// A page in a table: not ready for an entry, or ready with the one that it has. No Option, which could have no conversions from and to a word.
 #[derive(Clone, Copy, PartialEq, Eq, Debug)]
 pub enum PageState {
     Unready,
@@ -24,7 +37,7 @@ pub enum PageState {
 }
 
 impl PageState {
-    // The entry: absent where the page is not ready.
+    // The entry: absent where the page is not ready. No From, since it forgets whether the page is ready.
     pub fn entry(self) -> Entry
         ensures { result ≡ entry_of self }
     {
@@ -32,6 +45,12 @@ impl PageState {
             PageState::Unready => Entry::Absent,
             PageState::Ready(entry) => entry,
         }
+    }
+
+    pub(crate) fn is_ready(self) -> bool
+        ensures { result ≡ is_ready self }
+    {
+        matches!(self, PageState::Ready(_))
     }
 }
 

@@ -1,7 +1,8 @@
 // Where a page of the two-level table lies: its place, among the pages of all processes in a row. A block is 64 places in a row.
-ghost use Rattle.std.specs.Prelude.{◌≡◌, ◌*◌, ◌%◌, ◌<◌, ◌≤◌};
+ghost use Rattle.std.specs.Prelude.{◌≡◌, ◌*◌, ◌/◌, ◌%◌, ◌<◌, ◌≤◌, option_map};
 ghost use Rattle.paging.specs.Blocks.{block_pages, blocks, first_block, IsPart, known_place, past_block, process_blocks, span_end, span_start};
 
+use crate::range::{PageRange, Pages};
 use crate::table::PROCESSES;
 
 // The most pages of a process.
@@ -16,21 +17,69 @@ const PROCESS_BLOCKS: usize = PAGES as usize / BLOCK_PAGES;
 // How many blocks there are.
 pub(crate) const BLOCKS: usize = PROCESSES as usize * PROCESS_BLOCKS;
 
-// The place of a page; none where the table does not know the page.
-pub(crate) fn place(process: u32, page: u32) -> Option<usize>
-    ensures { result ≡ known_place process page }
-{
-    if process >= PROCESSES || page >= PAGES {
-        return None;
-    }
-    Some(process as usize * PAGES as usize + page as usize)
+// The place of a page that the table knows.
+#[derive(Clone, Copy)]
+pub(crate) struct Place {
+    index: usize,
+    ghost inside: { index < blocks * block_pages },
 }
 
-// The first page of a block, in its process.
-pub(crate) fn first_page(block: usize) -> u32
-    ensures { result ≡ block % process_blocks * block_pages }
-{
-    (block % PROCESS_BLOCKS * BLOCK_PAGES) as u32
+impl Place {
+    // The place of a page; none where the table does not know the page.
+    pub(crate) fn of(process: u32, page: u32) -> Option<Self>
+        ensures { option_map (λ place. place.index) result ≡ known_place process page }
+    {
+        if process >= PROCESSES || page >= PAGES {
+            return None;
+        }
+        let index = process as usize * PAGES as usize + page as usize;
+        Some(Place { index })
+    }
+
+    // The block that the page lies in.
+    pub(crate) fn block(self) -> Block
+        ensures { result.number ≡ self.index / block_pages }
+    {
+        Block {
+            number: self.index / BLOCK_PAGES,
+        }
+    }
+
+    // Which of the block's pages it is.
+    pub(crate) fn page(self) -> u32
+        ensures { result ≡ self.index % block_pages }
+    {
+        (self.index % BLOCK_PAGES) as u32
+    }
+}
+
+// A block, by its number among those of all processes in a row.
+#[derive(Clone, Copy)]
+pub(crate) struct Block {
+    pub(crate) number: usize,
+    ghost inside: { number < blocks },
+}
+
+impl Block {
+    // The first page, in its process.
+    pub(crate) fn first_page(self) -> u32
+        ensures { result ≡ self.number % process_blocks * block_pages }
+    {
+        (self.number % PROCESS_BLOCKS * BLOCK_PAGES) as u32
+    }
+
+    // The block's pages that lie in the span.
+    pub(crate) fn pages_in(self, span: Span) -> Pages
+        ensures { IsPart self.number span.start span.end result.first result.count }
+    {
+        let base = self.number * BLOCK_PAGES;
+        let first = span.start.saturating_sub(base).min(BLOCK_PAGES);
+        let past = span.end.saturating_sub(base).min(BLOCK_PAGES);
+        Pages {
+            first: first as u32,
+            count: past.saturating_sub(first) as u32,
+        }
+    }
 }
 
 // Places in a row: from `start` up to `end`.
@@ -44,56 +93,34 @@ pub(crate) struct Span {
 
 impl Span {
     // The places of a range's pages, as far as the table knows them.
-    pub(crate) fn of(process: u32, first: u32, count: u32) -> Self
-        ensures start { result.start ≡ span_start process first }
-        ensures end { result.end ≡ span_end process first count }
+    pub(crate) fn of(range: PageRange) -> Self
+        ensures start { result.start ≡ span_start range.process range.pages.first }
+        ensures end { result.end ≡ span_end range.process range.pages.first range.pages.count }
     {
-        if process >= PROCESSES {
+        if range.process >= PROCESSES {
             return Span { start: 0, end: 0 };
         }
+        let Pages { first, count } = range.pages;
         let first = first.min(PAGES);
         let past = first + count.min(PAGES - first);
-        let base = process as usize * PAGES as usize;
+        let base = range.process as usize * PAGES as usize;
         Span {
             start: base + first as usize,
             end: base + past as usize,
         }
     }
 
-    // The block that the first place lies in.
+    // The number of the block that the first place lies in.
     pub(crate) fn first_block(self) -> usize
         ensures { result ≡ first_block self.start }
     {
         self.start / BLOCK_PAGES
     }
 
-    // The block after the one that the last place lies in.
+    // The number after that of the block that the last place lies in.
     pub(crate) fn past_block(self) -> usize
         ensures { result ≡ past_block self.end }
     {
         (self.end + BLOCK_PAGES - 1) / BLOCK_PAGES
-    }
-}
-
-// Some pages of a block in a row: `count` from `first`.
-#[derive(Clone, Copy)]
-pub(crate) struct Part {
-    pub(crate) first: u32,
-    pub(crate) count: u32,
-}
-
-impl Part {
-    // The pages of the block that lie in the span.
-    pub(crate) fn of(block: usize, span: Span) -> Self
-        requires { block < blocks }
-        ensures { IsPart block span.start span.end result.first result.count }
-    {
-        let base = block * BLOCK_PAGES;
-        let first = span.start.saturating_sub(base).min(BLOCK_PAGES);
-        let past = span.end.saturating_sub(base).min(BLOCK_PAGES);
-        Part {
-            first: first as u32,
-            count: past.saturating_sub(first) as u32,
-        }
     }
 }

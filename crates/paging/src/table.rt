@@ -8,12 +8,12 @@ use crate::page::{Entry, Fault};
 // Page tables know the processes below this number.
 pub const PROCESSES: u32 = 32;
 
-// Every operation takes any numbers at all.
+// Every operation takes any numbers at all, as they come: a struct of them would have nothing to check, and be made at each call.
 pub trait PageTable {
     // The most pages of a process.
     const PAGES: u32;
 
-    // The same, for contracts, which cannot name a constant of a bound.
+    // The same, for contracts. One of the constant's own name would be tied to it, and `most_pages` written once for all tables, but the check does not state that tie for an implementation with a lifetime.
     ghost pages: { ℕ };
 
     // What a table means: its entries, its ready pages and which ranges fit.

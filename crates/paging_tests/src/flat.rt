@@ -3,6 +3,7 @@ ghost use Rattle.paging.specs.Flat.{WroteIf};
 ghost use Rattle.paging.specs.Window.{replaced};
 
 use crate::answers::{FRAME_7, FRAME_4096, at};
+use crate::both;
 use paging::{Entry, Fault, FlatTable, PageTable, Word};
 use std::test::Fail;
 
@@ -17,33 +18,16 @@ fn lend(memory: &mut [Word], entry: Entry) -> Result<(), Fault>
 #[test]
 fn last_process_and_page(rt: HostRuntime) -> Result<(), Fail> {
     let mut memory = vec![in rt.alloc(); 0 as Word; 32768]?;
-    let mut table = FlatTable::new(memory.as_mut_slice());
-    assert_eq!(rt; table.reserve(31, 1023, 1), Ok(()));
-    assert_eq!(rt; table.put(31, 1023, FRAME_7), Ok(()));
-    assert_eq!(rt; table.look(31, 1023), FRAME_7);
-    assert_eq!(rt; table.look(31, 1024), Entry::Absent);
-    assert_eq!(rt; table.look(32, 1023), Entry::Absent);
-    assert_eq!(rt; table.put(31, 1024, FRAME_7), at(31, 1024));
-    assert_eq!(rt; table.put(32, 1023, FRAME_7), at(32, 1023));
-    assert_eq!(rt; table.reserve(31, 1024, 1), at(31, 1024));
-    assert_eq!(rt; table.reserve(31, 1023, 2), at(31, 1023));
-    assert_eq!(rt; table.reserve(32, 0, 1), at(32, 0));
+    // What `both` takes from the table, said outright.
+    assert_eq!(rt; FlatTable::PAGES, 1024);
+    both::last_process_and_page(&rt, &mut FlatTable::new(memory.as_mut_slice()));
     Ok(())
 }
 
 #[test]
 fn ranges_that_never_fit(rt: HostRuntime) -> Result<(), Fail> {
     let mut memory = vec![in rt.alloc(); 0 as Word; 32768]?;
-    let mut table = FlatTable::new(memory.as_mut_slice());
-    assert_eq!(rt; table.reserve(0, 5, 0), at(0, 5));
-    assert_eq!(rt; table.reserve(0, 0, 1025), at(0, 0));
-    assert_eq!(rt; table.reserve(0, 1, u32::MAX), at(0, 1));
-    assert_eq!(rt; table.reserve(0, u32::MAX, 1), at(0, u32::MAX));
-    assert_eq!(rt;
-        table.reserve(u32::MAX, u32::MAX, u32::MAX),
-        at(u32::MAX, u32::MAX)
-    );
-    assert_eq!(rt; table.reserve(0, 0, 1024), Ok(()));
+    both::ranges_that_never_fit(&rt, &mut FlatTable::new(memory.as_mut_slice()));
     Ok(())
 }
 
@@ -75,21 +59,7 @@ fn a_word_that_counts_as_unready_is_an_unready_page(rt: HostRuntime) -> Result<(
 #[test]
 fn release_past_the_end_stays_in_its_window(rt: HostRuntime) -> Result<(), Fail> {
     let mut memory = vec![in rt.alloc(); 0 as Word; 32768]?;
-    let mut table = FlatTable::new(memory.as_mut_slice());
-    assert_eq!(rt; table.reserve(0, 1022, 2), Ok(()));
-    assert_eq!(rt; table.reserve(1, 0, 1), Ok(()));
-    assert_eq!(rt; table.put(0, 1022, FRAME_7), Ok(()));
-    assert_eq!(rt; table.put(0, 1023, FRAME_7), Ok(()));
-    assert_eq!(rt; table.put(1, 0, FRAME_7), Ok(()));
-    table.release(0, 1023, u32::MAX);
-    assert_eq!(rt; table.look(0, 1022), FRAME_7);
-    assert_eq!(rt; table.look(0, 1023), Entry::Absent);
-    assert_eq!(rt; table.put(0, 1023, FRAME_7), at(0, 1023));
-    assert_eq!(rt; table.look(1, 0), FRAME_7);
-    table.release(0, u32::MAX, u32::MAX);
-    table.release(32, 0, u32::MAX);
-    assert_eq!(rt; table.look(0, 1022), FRAME_7);
-    assert_eq!(rt; table.look(1, 0), FRAME_7);
+    both::release_past_the_end(&rt, &mut FlatTable::new(memory.as_mut_slice()));
     Ok(())
 }
 
@@ -118,14 +88,7 @@ fn making_clears_nothing_and_longer_memory_is_kept(rt: HostRuntime) -> Result<()
     assert_eq!(rt; memory.get(32767).copied(), Some(0));
     assert_eq!(rt; memory.get(32768).copied(), Some(0x9003));
     assert_eq!(rt; left, Entry::Absent);
-    assert_eq!(rt;
-        found,
-        Entry::Present {
-            frame: 3,
-            write: false,
-            accessed: true,
-        }
-    );
+    assert_eq!(rt; found, Entry::present(3, false, true));
     Ok(())
 }
 
@@ -135,17 +98,13 @@ fn reserve_over_words_of_every_kind(rt: HostRuntime) -> Result<(), Fail> {
     let words = [
         0 as Word, 1, 0x3fff, 0x4000, 0x4001, 0x7fff, 0xc000, 0xffff, 0xa007,
     ];
-    for (i, word) in words.iter().enumerate() {
-        if let Some(place) = memory.get_mut(i) {
-            *place = *word;
-        }
+    for (place, word) in memory.iter_mut().zip(words) {
+        *place = word;
     }
     let mut table = FlatTable::new(memory.as_mut_slice());
     assert_eq!(rt; table.reserve(0, 0, 9), Ok(()));
     assert_eq!(rt; table.look(0, 8), FRAME_7);
-    for i in 0..8 {
-        assert_eq!(rt; memory.get(i).copied(), Some(0x4000));
-    }
+    assert_eq!(rt; memory.get(..8), Some([0x4000; 8].as_slice()));
     assert_eq!(rt; memory.get(8).copied(), Some(0xa007));
     assert_eq!(rt; memory.get(9).copied(), Some(0));
     Ok(())
@@ -155,11 +114,7 @@ fn reserve_over_words_of_every_kind(rt: HostRuntime) -> Result<(), Fail> {
 fn putting_absent_leaves_the_page_ready(rt: HostRuntime) -> Result<(), Fail> {
     let mut memory = vec![in rt.alloc(); 0 as Word; 32768]?;
     assert_eq!(rt; lend(memory.as_mut_slice(), FRAME_7), at(1, 5));
-    let mut table = FlatTable::new(memory.as_mut_slice());
-    assert_eq!(rt; table.reserve(1, 5, 1), Ok(()));
-    assert_eq!(rt; table.put(1, 5, FRAME_7), Ok(()));
-    assert_eq!(rt; table.put(1, 5, Entry::Absent), Ok(()));
-    assert_eq!(rt; table.look(1, 5), Entry::Absent);
+    both::putting_absent(&rt, &mut FlatTable::new(memory.as_mut_slice()), 1, 5);
     assert_eq!(rt; lend(memory.as_mut_slice(), FRAME_7), Ok(()));
     assert_eq!(rt; memory.get(1029).copied(), Some(0xa007));
     Ok(())
@@ -169,14 +124,9 @@ fn putting_absent_leaves_the_page_ready(rt: HostRuntime) -> Result<(), Fail> {
 fn a_frame_too_large_is_refused(rt: HostRuntime) -> Result<(), Fail> {
     let mut memory = vec![in rt.alloc(); 0x4000 as Word; 32768]?;
     let mut table = FlatTable::new(memory.as_mut_slice());
-    let too_large = Entry::Present {
-        frame: 4096,
-        write: true,
-        accessed: false,
-    };
-    assert_eq!(rt; table.put(0, 9, too_large), at(0, 9));
+    assert_eq!(rt; table.put(0, 9, FRAME_4096), at(0, 9));
     assert_eq!(rt; table.put(1, 9, FRAME_7), Ok(()));
-    assert_eq!(rt; table.put(1, 9, too_large), at(1, 9));
+    assert_eq!(rt; table.put(1, 9, FRAME_4096), at(1, 9));
     assert_eq!(rt; table.look(0, 9), Entry::Absent);
     assert_eq!(rt; table.look(1, 9), FRAME_7);
     Ok(())

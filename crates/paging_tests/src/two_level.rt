@@ -1,5 +1,6 @@
 // The two-level table.
-use crate::answers::{FRAME_7, FRAME_4096, at};
+use crate::answers::{FRAME_7, at};
+use crate::both;
 use paging::{Entry, PageTable, TwoLevelTable};
 
 #[test]
@@ -18,31 +19,14 @@ fn nothing_is_ready_at_first(rt: HostRuntime) {
 
 #[test]
 fn last_process_and_page(rt: HostRuntime) {
-    let mut table = TwoLevelTable::new();
-    assert_eq!(rt; table.reserve(31, 4095, 1), Ok(()));
-    assert_eq!(rt; table.put(31, 4095, FRAME_7), Ok(()));
-    assert_eq!(rt; table.look(31, 4095), FRAME_7);
-    assert_eq!(rt; table.look(31, 4096), Entry::Absent);
-    assert_eq!(rt; table.look(32, 4095), Entry::Absent);
-    assert_eq!(rt; table.put(31, 4096, FRAME_7), at(31, 4096));
-    assert_eq!(rt; table.put(32, 0, FRAME_7), at(32, 0));
-    assert_eq!(rt; table.put(31, 4095, FRAME_4096), at(31, 4095));
-    assert_eq!(rt; table.look(31, 4095), FRAME_7);
+    // What `both` takes from the table, said outright.
+    assert_eq!(rt; TwoLevelTable::PAGES, 4096);
+    both::last_process_and_page(&rt, &mut TwoLevelTable::new());
 }
 
 #[test]
 fn a_range_that_is_ruled_out_names_its_own_page(rt: HostRuntime) {
-    let mut table = TwoLevelTable::new();
-    assert_eq!(rt; table.reserve(0, 70, 0), at(0, 70));
-    assert_eq!(rt; table.reserve(0, 4095, 2), at(0, 4095));
-    assert_eq!(rt; table.reserve(0, 4096, 1), at(0, 4096));
-    assert_eq!(rt; table.reserve(0, 1, u32::MAX), at(0, 1));
-    assert_eq!(rt; table.reserve(0, u32::MAX, u32::MAX), at(0, u32::MAX));
-    assert_eq!(rt; table.reserve(32, 70, 1), at(32, 70));
-    assert_eq!(rt; table.reserve(u32::MAX, 70, 1), at(u32::MAX, 70));
-    assert_eq!(rt; table.look(u32::MAX, u32::MAX), Entry::Absent);
-    assert_eq!(rt; table.put(0, 70, FRAME_7), at(0, 70));
-    assert_eq!(rt; table.reserve(0, 0, 4096), Ok(()));
+    both::ranges_that_never_fit(&rt, &mut TwoLevelTable::new());
 }
 
 #[test]
@@ -167,22 +151,7 @@ fn release_of_a_part_over_blocks(rt: HostRuntime) {
 
 #[test]
 fn release_past_the_end(rt: HostRuntime) {
-    let mut table = TwoLevelTable::new();
-    assert_eq!(rt; table.reserve(0, 4094, 2), Ok(()));
-    assert_eq!(rt; table.reserve(1, 0, 1), Ok(()));
-    assert_eq!(rt; table.put(0, 4094, FRAME_7), Ok(()));
-    assert_eq!(rt; table.put(0, 4095, FRAME_7), Ok(()));
-    assert_eq!(rt; table.put(1, 0, FRAME_7), Ok(()));
-    table.release(0, 4095, u32::MAX);
-    assert_eq!(rt; table.look(0, 4094), FRAME_7);
-    assert_eq!(rt; table.look(0, 4095), Entry::Absent);
-    assert_eq!(rt; table.look(1, 0), FRAME_7);
-    table.release(0, u32::MAX, u32::MAX);
-    table.release(32, 0, u32::MAX);
-    table.release(0, 0, 0);
-    table.release(0, 4094, 0);
-    assert_eq!(rt; table.look(0, 4094), FRAME_7);
-    assert_eq!(rt; table.look(1, 0), FRAME_7);
+    both::release_past_the_end(&rt, &mut TwoLevelTable::new());
 }
 
 #[test]
@@ -200,10 +169,7 @@ fn release_past_the_end_gives_the_last_leaf_back(rt: HostRuntime) {
 #[test]
 fn putting_absent_keeps_the_leaf(rt: HostRuntime) {
     let mut table = TwoLevelTable::new();
-    assert_eq!(rt; table.reserve(6, 70, 1), Ok(()));
-    assert_eq!(rt; table.put(6, 70, FRAME_7), Ok(()));
-    assert_eq!(rt; table.put(6, 70, Entry::Absent), Ok(()));
-    assert_eq!(rt; table.look(6, 70), Entry::Absent);
+    both::putting_absent(&rt, &mut table, 6, 70);
     assert_eq!(rt; table.put(6, 70, FRAME_7), Ok(()));
     assert_eq!(rt; table.look(6, 70), FRAME_7);
 }

@@ -1,16 +1,13 @@
-use Rattle.std.proofs.Common.{◌+◌, ◌-◌, arith}
-use Rattle.paging.specs.Flat.{flat_pages}
+-- What is made ready in the window is made ready in the table.
+use Rattle.std.proofs.Common.{◌≡◌, Some, sym, ◌∙◌, arith, rules}
+use Rattle.paging.specs.Flat.{window_start}
 use Rattle.paging.specs.Window.{readied}
+use Rattle.paging.proofs.FlatMeaning.{flat_reserved}
 use Rattle.paging.proofs.FlatWords.{fits_window, window_wrote}
 use Rattle.paging.proofs.flat.reserve_in.Goals as goal
 
 pub returns : goal.returns
 returns c =
-    let p = c.args.process in
-    let s = c.in-Some.start in
-    let ws = c.args.words.now in
-    record {
-      done = fits_window p c.args.first c.args.count s ws c.if-ruled_out.ensures c.in-Some.ensures;
-      after = window_wrote p s (s + flat_pages - s) ws c.in-Some.ensures (omega arith) readied c.args.first c.args.count
-          c.reserve.new.window c.reserve.ensures.words;
-    }
+    let begins : Some c.in_ok-start.start ≡ window_start c.args.words.now c.args.range.process = sym c.in_ok-start.ensures.ok_part ∙ c.window_start.ensures in
+    let wrote = window_wrote _ _ _ _ begins (omega arith) readied _ _ _ c.reserve.ensures.words in
+    record { reserves = flat_reserved _ _ _ _ _ (search (rules, fits_window)) wrote; wrote = wrote }

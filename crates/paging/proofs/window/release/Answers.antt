@@ -1,18 +1,15 @@
-use Rattle.std.proofs.Common.{◌≡◌, get_or, refl, ap, ◌∙◌, arith}
-use mir.Val.{bool_byte}
-use Rattle.paging.specs.States.{is_ready}
-use Rattle.paging.specs.Window.{ready_in, unreadied}
-use Rattle.paging.specs.Word.{state_of}
-use Rattle.paging.proofs.ReadyCounts.{byte_small, lost_more}
-use Rattle.paging.proofs.Windows.{rewrites_more}
+-- The pages of the range are those of the part that is lent, and none of them is ready in the end.
+use Rattle.std.proofs.Common.{refl, ◌∙◌, rules}
+use Rattle.std.proofs.lemmas.Simd.{splat_is_map}
+use Rattle.paging.specs.Window.{unreadied}
+use Rattle.paging.proofs.ReadyCounts.{part_lost}
+use Rattle.paging.proofs.Windows.{part_rewritten}
 use Rattle.paging.proofs.window.release.Goals as goal
 
-pub loop-page-preserved : goal.loop-page-preserved
-loop-page-preserved c =
-    let vs = c.loop-page.window in
-    let i = c.loop-page.page in
-    let one : c.from-lost.result ≡ bool_byte (is_ready (state_of (get_or vs i 0))) = c.from-lost.ensures ∙ ap bool_byte c.is_ready.ensures in (
-      rewrites_more unreadied c.args.first c.args.window.now i 0 vs (omega arith) (omega arith) refl c.loop-page.invariant.0,
-      lost_more vs i (omega arith) (ready_in c.args.window.now) c.loop-page.lost c.from-lost.result one c.loop-page.invariant.1,
-      omega (arith, byte_small (is_ready (state_of (get_or vs i 0)))),
-    )
+pub returns-clause-words : goal.returns-clause-words
+returns-clause-words c =
+    part_rewritten unreadied _ _ _ _ _ _ c.within-start.ensures.start c.within-start.ensures.end
+    (c.fill.ensures.after (λ _ e. e) ∙ splat_is_map _ _ 0 refl)
+
+pub returns-clause-lost : goal.returns-clause-lost
+returns-clause-lost c = search (rules, part_lost)

@@ -3,4 +3,4 @@ use Rattle.paging.proofs.Directories.{held_count}
 use Rattle.paging.proofs.directory.Directory.free_leaves.Goals as goal
 
 pub returns : goal.returns
-returns c = let d = c.args.self.now in omega (arith, c.len.ensures, d.all, held_count d.slots d.sized)
+returns c = let d = c.args.self.now in omega (arith, c.len.ensures.value, d.all, held_count d.slots d.sized)

@@ -4,5 +4,5 @@ use Rattle.paging.specs.Lacking.{free_leaves, lacking}
 use Rattle.paging.specs.TwoLevel.{slots_of}
 use Rattle.paging.proofs.levels.Levels.first_without.Given as goal
 
-abbrev pub invariant-loop-block : goal.invariant-loop-block
-invariant-loop-block l = l.left + lacking (holds (slots_of l.self)) l.initial.block (l.block - l.initial.block) ≡ free_leaves (holds (slots_of l.self))
+abbrev pub invariant-loop-number : goal.invariant-loop-number
+invariant-loop-number l = l.left + lacking (holds (slots_of l.self)) l.initial.number (l.number - l.initial.number) ≡ free_leaves (holds (slots_of l.self))
