@@ -16,7 +16,7 @@ enum Person {
 }
 
 impl Person {
-    // No From: that a person is turned into a number says less than which number it is.
+    // Not a From: `who.process()` says which number it is.
     fn process(self) -> u32
         ensures { result ≡ number self }
     {

@@ -10,7 +10,6 @@ use Rattle.paging.specs.declared.page.Fault.{Fault}
 use Rattle.paging.specs.declared.window.PutError.{PutError}
 use Rattle.paging.specs.Effects.{Puts, Reserved, Replaced}
 use Rattle.paging.specs.Flat.{flat, flat_fits, flat_pages, flat_state, window_start, Wrote, WroteIf}
-use Rattle.paging.specs.FlatLawful.{ready_word}
 use Rattle.paging.specs.Ranges.{in_range}
 use Rattle.paging.specs.States.{is_ready}
 use Rattle.paging.specs.Window.{put_answer, readied, replaced, Rewrites, window_state}
@@ -28,7 +27,6 @@ flat_replaced : (e : Entry) (p q : ℕ) (ws vs : List ℕ) → (is_ready (flat_s
 flat_replaced e p q ws vs can w =
     let parts = and_parts (is_ready (flat_state ws p q)) (storable e) can in
     let means = stored e parts.1 in
-    let has = ready_word ws p q parts.0 in
     record {
       can = can;
       entries = fun_ext (λ r. fun_ext (λ s.
@@ -50,9 +48,8 @@ module _ (e : Entry) (p q s k : ℕ) (ws vs : List ℕ) (start : Some s ≡ wind
       → MatchResult done (λ _. Rewrites (replaced e) q 1 (take k (drop s ws)) vs) (λ _. vs ≡ take k (drop s ws))
       → MatchResult done (λ x. r ≡ Ok x) (λ d. IsErrAnd r (Says d))
       → Puts (flat ws) p q e r (flat (put_mid s k ws vs)) × WroteIf r (replaced e) p q 1 ws (put_mid s k ws vs)
-  flat_put (Ok x) (Ok y) is w told =
-      let wrote = window_wrote p s k ws start size (replaced e) q 1 vs w in (flat_replaced e p q ws (put_mid s k ws vs) (can (Ok x) is) wrote, wrote)
-  flat_put (Ok x) (Err f) is w told = absurd cc
+  flat_put (Ok x) r is w told =
+      let wrote = window_wrote p s k ws start size (replaced e) q 1 vs w in rw told (flat_replaced e p q ws (put_mid s k ws vs) (can (Ok x) is) wrote, wrote)
   flat_put (Err d) (Ok y) is same told = absurd told
   flat_put (Err d) (Err f) is same told =
       let kept : put_mid s k ws vs ≡ ws = rw same (put_same s k ws) in (record { cannot = can (Err d) is; fault = names d f told; same = ap flat kept }, kept)

@@ -1,15 +1,10 @@
 pub mod Windows
 pub mod ReadyCounts
-pub mod FreeList
-pub mod Counting
 pub mod Directories
-pub mod BlockStates
 pub mod LevelSteps
-pub mod LevelPut
 pub mod Spans
 pub mod Fits
 pub mod Held
 pub mod TwoLevelMeaning
-pub mod Lifts
 pub mod FlatWords
 pub mod FlatMeaning

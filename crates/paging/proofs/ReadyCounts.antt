@@ -1,5 +1,5 @@
 -- How many pages of a window are ready, as its words are rewritten.
-use Rattle.std.proofs.Common.{◌≡◌, ℕ, ◌+◌, ◌-◌, true, cond, List, [], ◌∷◌, map, replicate, length, take, drop, sum, Result, MatchResult, Ok, Err, sym, refl, ap, ◌∙◌, arith}
+use Rattle.std.proofs.Common.{◌≡◌, ℕ, ◌+◌, ◌-◌, cond, List, [], ◌∷◌, map, replicate, length, take, drop, sum, Result, MatchResult, Ok, Err, sym, refl, ap, ◌∙◌, arith}
 use borrow.Rule.Slice.PartMut.{put_mid}
 use Rattle.std.proofs.lemmas.List.{get_or-map, length-map, same_lists}
 use Rattle.std.proofs.lemmas.List.Sums.{count_by-le-length, sum-map, sum_by-append, sum_by-cons, sum_by-take-drop}
@@ -14,10 +14,6 @@ use Rattle.paging.specs.Word.{entry_word, state_of, unready_word}
 -- one for the word of a ready page
 abbrev one : ℕ → ℕ
 one w = cond (is_ready (state_of w)) 1 0
-
--- a word is ready once reserve has stored it
-pub readied_ready : (w : ℕ) → is_ready (state_of (readied w)) ≡ true
-readied_ready w = grind arith
 
 -- all pages are ready that reserve made ready
 all_ready : (ws : List ℕ) → ready_in (map readied ws) ≡ length ws

@@ -1,25 +1,22 @@
 -- Words of a window: what they mean, and that a range of them is rewritten where the part that it names is lent.
-use Rattle.std.proofs.Common.{◌≡◌, ℕ, ◌+◌, ◌-◌, ◌<◌, ◌≤◌, Bool, true, cond, List, map, length, get_or, take, drop, min, sym, ap, ◌∙◌, arith}
+use Rattle.std.proofs.Common.{◌≡◌, ℕ, ◌+◌, ◌-◌, ◌<◌, Bool, true, cond, List, map, length, get_or, take, drop, min, replicate, refl, ap, ◌∙◌, arith}
 use borrow.Rule.Slice.PartMut.{mid_len, put_mid, same_len_mid}
-use Rattle.std.proofs.lemmas.List.{places, get_or_past, get_or-map, length-map}
+use Rattle.std.proofs.lemmas.List.{places, get_or-map, length-map}
 use Rattle.std.proofs.lemmas.Bool.Decides.{nat_tests}
+use Rattle.std.proofs.lemmas.Simd.{splat_is_map}
 use Rattle.paging.specs.declared.page.Entry.{Entry}
-use Rattle.paging.specs.declared.page.PageState.TheVariants.{Unready, Ready}
+use Rattle.paging.specs.declared.page.PageState.TheVariants.{Ready}
 use Rattle.paging.specs.States.{made_ready}
-use Rattle.paging.specs.Window.{readied, Rewrites, window_state}
-use Rattle.paging.specs.Word.{entry_word, state_of, storable}
-
--- a page past the end is unready
-pub past_window : (ws : List ℕ) (q : ℕ) → length ws ≤ q → Unready ≡ window_state ws q
-past_window ws q h = sym (ap state_of (get_or_past ws q 0 h))
-
--- the word that reserve stores means the state made ready
-pub readied_means : (w : ℕ) → state_of (readied w) ≡ made_ready (state_of w)
-readied_means w = grind arith
+use Rattle.paging.specs.Window.{readied, Rewrites, unreadied}
+use Rattle.paging.specs.Word.{entry_word, state_of, storable, unready_word}
 
 -- the word that put stores means its entry
 pub stored : (e : Entry) → storable e ≡ true → state_of (entry_word e) ≡ Ready e
 stored e h = grind (arith, nat_tests)
+
+-- the word that reserve stores means the state made ready
+pub readied_means : (w : ℕ) → state_of (readied w) ≡ made_ready (state_of w)
+readied_means w = grind arith
 
 -- a test inside a word is a test outside its state
 pub state_of_cond : (b : Bool) (v w : ℕ) → state_of (cond b v w) ≡ cond b (state_of v) (state_of w)
@@ -38,3 +35,8 @@ part_rewritten f a n s e ws vs starts ends is =
           let became : i - s < e - s → get_or vs (i - s) 0 ≡ f (get_or part (i - s) 0) = λ low. rw is (get_or-map f part (i - s) 0 0 (omega arith)) in
           grind (arith, nat_tests, places, became);
     }
+
+-- all of them were cleared
+pub part_cleared : (a n s e : ℕ) (ws vs : List ℕ) → s ≡ min a (length ws) → e ≡ min (a + n) (length ws)
+    → vs ≡ replicate (length (take (e - s) (drop s ws))) unready_word → Rewrites unreadied a n ws (put_mid s (e - s) ws vs)
+part_cleared a n s e ws vs starts ends is = part_rewritten unreadied a n s e ws vs starts ends (is ∙ splat_is_map _ _ 0 refl)

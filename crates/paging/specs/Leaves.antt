@@ -3,8 +3,9 @@ use Rattle.std.specs.Prelude.{◌≡◌, ℕ, ◌/◌, ◌%◌, ◌≤◌, Bool,
 use Rattle.paging.specs.declared.leaf.Leaf.{Leaf}
 use Rattle.paging.specs.declared.page.PageState.{PageState}
 use Rattle.paging.specs.declared.page.PageState.TheVariants.{Unready}
-use Rattle.paging.specs.Blocks.{block_pages}
+use Rattle.paging.specs.Blocks.{block_pages, known, place}
 use Rattle.paging.specs.Directory.{leaf_of}
+use Rattle.paging.specs.States.{is_ready}
 use Rattle.paging.specs.Window.{ready_in, window_state}
 
 -- the words of each leaf
@@ -19,6 +20,14 @@ leaf_state words (Some l) i = window_state (slice_index_or words l []) i
 -- the state of the page at place x
 abbrev pub state_at : List (Option ℕ) → List (List ℕ) → ℕ → PageState
 state_at slots words x = leaf_state words (leaf_of slots (x / block_pages)) (x % block_pages)
+
+-- the state of page q of process p
+abbrev pub page_state : List (Option ℕ) → List (List ℕ) → ℕ → ℕ → PageState
+page_state slots words p q = cond (known p q) (state_at slots words (place p q)) Unready
+
+-- whether the page is ready
+abbrev pub page_ready : List (Option ℕ) → List (List ℕ) → ℕ → ℕ → Bool
+page_ready slots words p q = is_ready (page_state slots words p q)
 
 -- a leaf that a block holds has a ready page
 abbrev pub Used : List (Option ℕ) → List (List ℕ) → Type 0

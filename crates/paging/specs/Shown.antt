@@ -1,4 +1,4 @@
--- How entries and faults are printed.
+-- How entries, faults and a frame that is too large are printed.
 use Rattle.std.specs.Prelude.{ℕ, Bool, cond, List, ◌++◌, codes, decimal}
 use Rattle.paging.specs.declared.page.Entry.{Entry}
 use Rattle.paging.specs.declared.page.Entry.TheVariants.{Absent, Present}
@@ -17,3 +17,7 @@ entry_text (Present frame write accessed) =
 -- the process and the page, as `0:11`
 abbrev pub fault_text : Fault → List ℕ
 fault_text f = decimal f.process ++ (codes ":" ++ decimal f.page)
+
+-- what is said of a frame that no entry can hold
+abbrev pub frame_too_large_text : List ℕ
+frame_too_large_text = codes "the frame is too large for an entry"

@@ -1,6 +1,6 @@
 -- A page table by the state of each of its pages.
-use Rattle.std.specs.Prelude.{◌≡◌, ℕ, Bool, true, false, Option, refl}
-use Rattle.std.proofs.lemmas.Bool.{both_ways}
+use Rattle.std.specs.Prelude.{◌≡◌, ℕ, Bool, true, false, Option}
+use Rattle.std.proofs.Common.{arith}
 use Rattle.paging.specs.declared.page.Entry.{Entry}
 use Rattle.paging.specs.declared.page.Entry.TheVariants.{Absent}
 use Rattle.paging.specs.declared.page.Fault.{Fault}
@@ -33,5 +33,4 @@ by_states states faults =
 
 -- so it keeps the law that a page that is not ready is absent
 pub unready_absent : (s : PageState) → is_ready s ≡ false → entry_of s ≡ Absent
-unready_absent Unready h = refl
-unready_absent (Ready e) h = absurd (both_ways true h refl)
+unready_absent s h = grind arith

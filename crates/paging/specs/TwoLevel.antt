@@ -1,11 +1,10 @@
 -- The two-level table: what its directory and its leaves mean.
-use Rattle.std.specs.Prelude.{ℕ, ◌*◌, ◌/◌, ◌%◌, Bool, cond, List, is_some, Option}
+use Rattle.std.specs.Prelude.{ℕ, ◌*◌, ◌/◌, ◌%◌, Bool, List, is_some, Option}
 use Rattle.paging.specs.declared.levels.Levels.{Levels}
 use Rattle.paging.specs.declared.page.PageState.{PageState}
-use Rattle.paging.specs.declared.page.PageState.TheVariants.{Unready}
-use Rattle.paging.specs.Blocks.{block_pages, known, place, process_blocks}
+use Rattle.paging.specs.Blocks.{block_pages, process_blocks}
 use Rattle.paging.specs.Lacking.{first_of, two_level_fault}
-use Rattle.paging.specs.Leaves.{Changes, state_at, words_in}
+use Rattle.paging.specs.Leaves.{Changes, page_state, state_at, words_in}
 use Rattle.paging.specs.Meaning.{Meaning}
 use Rattle.paging.specs.States.{by_states, is_ready}
 
@@ -23,7 +22,7 @@ place_state t x = state_at (slots_of t) (words_of t) x
 
 -- the state of page q of process p
 abbrev pub two_level_state : Levels → ℕ → ℕ → PageState
-two_level_state t p q = cond (known p q) (place_state t (place p q)) Unready
+two_level_state t p q = page_state (slots_of t) (words_of t) p q
 
 -- whether the page is ready
 abbrev pub two_level_ready : Levels → ℕ → ℕ → Bool

@@ -1,9 +1,12 @@
 // The stored word of a page's state, and what each word means: the conversions there and back.
-ghost use Rattle.std.specs.Prelude.{◌≡◌};
+ghost use Rattle.std.specs.Prelude.{◌≡◌, Some};
 ghost use Rattle.std.specs.Result.{result_ok};
+ghost use Rattle.paging.specs.Shown.{frame_too_large_text};
 ghost use Rattle.paging.specs.Word.{Exact, state_of, word_of};
 
 use crate::page::{Entry, PageState};
+use std::error::Error;
+use std::fmt;
 
 // A word as a table stores it.
 pub type Word = u16;
@@ -36,6 +39,16 @@ pub const MAX_FRAME: u32 = FRAMES as u32 - 1;
 // Why a state has no word: its frame is greater than any that an entry can hold.
 #[derive(Clone, Copy, PartialEq, Eq, Debug)]
 pub struct FrameTooLarge;
+
+impl fmt::Display for FrameTooLarge {
+    ghost output = { λ _. Some frame_too_large_text };
+
+    fn fmt<W: fmt::Write>(&self, f: &mut fmt::Formatter<W>) -> fmt::Result {
+        f.write_str("the frame is too large for an entry")
+    }
+}
+
+impl Error for FrameTooLarge {}
 
 // The word of a state.
 impl TryFrom<PageState> for Word {

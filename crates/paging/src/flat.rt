@@ -33,6 +33,7 @@ impl<'a> FlatTable<'a> {
     }
 }
 
+// That the lender stays the same is said of each call that changes the table: a field of one value could not say it.
 impl<'a> PageTable for FlatTable<'a> {
     const PAGES: u32 = WINDOW as u32;
 
@@ -87,7 +88,9 @@ fn window_start(words: &[Word], process: u32) -> Option<usize>
     Some(process as usize * WINDOW)
 }
 
-// Hands the process's window on. Without one the page is unready.
+// The memory goes whole to each of the functions below, which hands one process's window on.
+
+// Without a window the page is unready.
 fn look_in(words: &[Word], process: u32, page: u32) -> PageState
     ensures { result ≡ flat_state words.now process page }
 {
@@ -97,7 +100,7 @@ fn look_in(words: &[Word], process: u32, page: u32) -> PageState
     window::look(&words[start..start + WINDOW], page)
 }
 
-// Hands the process's window on. Without one there is no page to put an entry at.
+// Without a window there is no page to put an entry at.
 fn put_in(words: &mut [Word], process: u32, page: u32, entry: Entry) -> Result<(), Fault>
     ensures puts { Puts (flat words.old) process page entry result (flat words.new) }
     ensures wrote { WroteIf result (replaced entry) process page 1 words.old words.new }
@@ -107,7 +110,7 @@ fn put_in(words: &mut [Word], process: u32, page: u32, entry: Entry) -> Result<(
     window::put(&mut words[start..start + WINDOW], page, entry).map_err(|_| fault)
 }
 
-// Hands the process's window on, unless the range is ruled out.
+// Without a window, or where the range is ruled out, nothing is reserved.
 fn reserve_in(words: &mut [Word], range: PageRange) -> Result<(), Fault>
     ensures reserves { Reserves (flat words.old) range.process range.pages.first range.pages.count result (flat words.new) }
     ensures wrote { WroteIf result readied range.process range.pages.first range.pages.count words.old words.new }
@@ -120,7 +123,7 @@ fn reserve_in(words: &mut [Word], range: PageRange) -> Result<(), Fault>
     Ok(())
 }
 
-// Hands the process's window on. Without one there is nothing to release.
+// Without a window there is nothing to release.
 fn release_in(words: &mut [Word], range: PageRange)
     ensures { Wrote unreadied range.process range.pages.first range.pages.count words.old words.new }
 {

@@ -18,14 +18,16 @@ use crate::window::PutError;
 #[derive(Drop)]
 pub(crate) struct Levels {
     directory: Directory,
-    // A block holds the number of one of these, and no box: the table's memory is fixed.
+    // A block holds the number of one of these and not a box: the table's memory is fixed.
     leaves: [Leaf; LEAVES],
     ghost sized: { length leaves ≡ leaf_count },
     // A leaf that a block holds has a ready page.
     ghost used: { Used directory.slots (words_in leaves) },
 }
 
+// A method that lends a leaf first takes `self` apart: the checker cannot lend an element of one field of a struct with ghost fields.
 impl Levels {
+    // Not above the struct, whose ghost fields these definitions are about.
     ghost use Rattle.paging.specs.TwoLevel.{Changed, place_state, slots_of, words_of};
 
     // No block holds a leaf.
@@ -93,7 +95,7 @@ impl Levels {
         }
     }
 
-    // The first block of the span that gets no leaf: those that hold one are passed over, and each other one takes a free one.
+    // The first block of the span that gets no leaf: those that hold one are passed over, and each other one takes a free one. A `for`, as what is left is counted off on the way.
     fn first_without(&self, span: Span) -> Option<Block>
         ensures { option_map (λ block. block.number) result ≡ first_without (holds (slots_of self.now)) span.start span.end }
     {
@@ -116,7 +118,7 @@ impl Levels {
         if range.is_ruled_out(PAGES) {
             return Err(range.fault());
         }
-        match self.first_without(Span::of(range)) {
+        match self.first_without(Span::from(range)) {
             Some(block) => Err(Fault {
                 process: range.process,
                 page: block.first_page(),

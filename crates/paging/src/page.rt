@@ -5,7 +5,7 @@ ghost use Rattle.paging.specs.States.{entry_of, is_ready};
 
 use std::fmt;
 
-// What a page maps: nothing, or a frame with its two bits. No Option, which is not the crate's own and could not be printed as an entry is.
+// What a page maps: nothing, or a frame with its two bits. Not an Option: an entry is printed, and only a type of the crate's own can say how.
 #[derive(Clone, Copy, PartialEq, Eq, Debug)]
 pub enum Entry {
     Absent,
@@ -29,7 +29,7 @@ impl Entry {
     }
 }
 
-// A page in a table: not ready for an entry, or ready with the one that it has. No Option, which could have no conversions from and to a word.
+// A page in a table: not ready for an entry, or ready with the one that it has. Not an Option: only a type of the crate's own can have conversions from and to a word.
 #[derive(Clone, Copy, PartialEq, Eq, Debug)]
 pub enum PageState {
     Unready,
@@ -37,7 +37,7 @@ pub enum PageState {
 }
 
 impl PageState {
-    // The entry: absent where the page is not ready. No From, since it forgets whether the page is ready.
+    // The entry: absent where the page is not ready. Not a From, since it forgets whether the page is ready.
     pub fn entry(self) -> Entry
         ensures { result ≡ entry_of self }
     {
@@ -47,6 +47,7 @@ impl PageState {
         }
     }
 
+    // Whether the page is ready.
     pub(crate) fn is_ready(self) -> bool
         ensures { result ≡ is_ready self }
     {
@@ -73,7 +74,7 @@ impl fmt::Display for Entry {
 
     fn fmt<W: fmt::Write>(&self, f: &mut fmt::Formatter<W>) -> fmt::Result {
         match self {
-            Entry::Absent => write!(f, "absent"),
+            Entry::Absent => f.write_str("absent"),
             Entry::Present {
                 frame,
                 write,

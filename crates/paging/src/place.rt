@@ -91,12 +91,11 @@ pub(crate) struct Span {
     ghost inside: { end ≤ blocks * block_pages },
 }
 
-impl Span {
-    // The places of a range's pages, as far as the table knows them.
-    pub(crate) fn of(range: PageRange) -> Self
-        ensures start { result.start ≡ span_start range.process range.pages.first }
-        ensures end { result.end ≡ span_end range.process range.pages.first range.pages.count }
-    {
+// The places of a range's pages, as far as the table knows them.
+impl From<PageRange> for Span {
+    ghost from_gives = { λ range span. (span.start ≡ span_start range.process range.pages.first) × (span.end ≡ span_end range.process range.pages.first range.pages.count) };
+
+    fn from(range: PageRange) -> Self {
         if range.process >= PROCESSES {
             return Span { start: 0, end: 0 };
         }
@@ -109,7 +108,9 @@ impl Span {
             end: base + past as usize,
         }
     }
+}
 
+impl Span {
     // The number of the block that the first place lies in.
     pub(crate) fn first_block(self) -> usize
         ensures { result ≡ first_block self.start }

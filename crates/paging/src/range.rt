@@ -1,4 +1,4 @@
-// Ranges of pages: pages in a row, and such of a process.
+// Ranges of pages: some pages in a row, and those of a process.
 ghost use Rattle.std.specs.Prelude.{◌≡◌, ◌+◌, min};
 ghost use Rattle.paging.specs.Ranges.{ruled_out};
 
@@ -32,6 +32,7 @@ pub(crate) struct PageRange {
 }
 
 impl PageRange {
+    // The `count` pages of the process from `first`.
     pub(crate) fn new(process: u32, first: u32, count: u32) -> Self
         ensures { result ≡ record { process = process; pages = record { first = first; count = count } } }
     {
@@ -49,7 +50,7 @@ impl PageRange {
         count == 0 || self.process >= PROCESSES || first > most || count > most - first
     }
 
-    // The fault that names the range's own process and first page.
+    // The fault that names the range's own process and first page. Not a From: not every fault of a range is this one.
     pub(crate) fn fault(self) -> Fault
         ensures { result ≡ record { process = self.process; page = self.pages.first } }
     {

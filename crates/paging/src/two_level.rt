@@ -48,13 +48,13 @@ impl PageTable for TwoLevelTable {
     {
         let range = PageRange::new(process, first, count);
         self.levels.check(range)?;
-        self.levels.reserve(Span::of(range));
+        self.levels.reserve(Span::from(range));
         Ok(())
     }
 
     fn release(&mut self, process: u32, first: u32, count: u32) {
         self.levels
-            .release(Span::of(PageRange::new(process, first, count)));
+            .release(Span::from(PageRange::new(process, first, count)));
     }
 
     fn look(&self, process: u32, page: u32) -> Entry {

@@ -1,14 +1,12 @@
 // A window: the stored words of some pages, one after the other. A page past its end counts as unready.
-ghost use Rattle.std.specs.Prelude.{◌≡◌, ◌+◌, ◌<◌, true, length, map, replicate, count_by, MatchResult};
+ghost use Rattle.std.specs.Prelude.{◌≡◌, ◌+◌, ◌<◌, true, length, map, MatchResult};
 ghost use Rattle.paging.specs.declared.window.PutError.TheVariants.{FrameTooLarge as too_large};
 ghost use Rattle.paging.specs.States.{is_ready};
 ghost use Rattle.paging.specs.Window.{put_answer, readied, ready_in, replaced, Rewrites, unreadied, window_state};
-ghost use Rattle.paging.specs.Word.{state_of};
 
 use crate::codec::{FrameTooLarge, READY_ABSENT, UNREADY, Word};
 use crate::page::{Entry, PageState};
 use crate::range::Pages;
-use std::ops::Range;
 
 // Why an entry cannot be put at a page.
 #[derive(Clone, Copy, PartialEq, Eq, Debug)]
@@ -49,13 +47,6 @@ pub(crate) fn put(window: &mut [Word], page: u32, entry: Entry) -> Result<(), Pu
     Ok(())
 }
 
-// Whether the word is that of a ready page.
-fn is_ready(word: Word) -> bool
-    ensures { result ≡ is_ready (state_of word) }
-{
-    PageState::from(word).is_ready()
-}
-
 // The word of a page once it is ready: it keeps its entry, and one that was not ready is absent.
 fn ready(word: Word) -> Word
     ensures { result ≡ readied word }
@@ -70,7 +61,10 @@ fn ready(word: Word) -> Word
 fn count_ready(words: &[Word]) -> usize
     ensures { result ≡ ready_in words.now }
 {
-    words.iter().filter(|word| is_ready(**word)).count()
+    words
+        .iter()
+        .filter(|word| PageState::from(**word).is_ready())
+        .count()
 }
 
 // Makes the page of each word ready.
@@ -87,8 +81,8 @@ pub(crate) fn reserve(window: &mut [Word], pages: Pages) -> usize
     ensures words { Rewrites readied pages.first pages.count window.old window.new }
     ensures gained { ready_in window.new ≡ ready_in window.old + result }
 {
-    let Range { start, end } = pages.within(window.len());
-    let reserved = &mut window[start..end];
+    let part = pages.within(window.len());
+    let reserved = &mut window[part];
     let gained = reserved.len() - count_ready(reserved);
     make_ready(reserved);
     gained
@@ -99,8 +93,8 @@ pub(crate) fn release(window: &mut [Word], pages: Pages) -> usize
     ensures words { Rewrites unreadied pages.first pages.count window.old window.new }
     ensures lost { ready_in window.new + result ≡ ready_in window.old }
 {
-    let Range { start, end } = pages.within(window.len());
-    let released = &mut window[start..end];
+    let part = pages.within(window.len());
+    let released = &mut window[part];
     let lost = count_ready(released);
     released.fill(UNREADY);
     lost

@@ -33,32 +33,32 @@ fn steps<P: PageTable>(rt: &impl Abort, table: &mut P) {
     assert_eq!(rt; table.put(31, P::PAGES.saturating_sub(1), FRAME_7), Ok(()));
 }
 
-// At and past the last page of the last process, on a table of which nothing is ready.
-pub(crate) fn last_process_and_page<P: PageTable>(rt: &impl Abort, table: &mut P) {
-    let last = P::PAGES.saturating_sub(1);
+// At and past the last page of the last process, on a table of so many pages to a process of which nothing is ready.
+pub(crate) fn last_process_and_page<P: PageTable>(rt: &impl Abort, table: &mut P, pages: u32) {
+    let last = pages.saturating_sub(1);
     assert_eq!(rt; table.reserve(31, last, 1), Ok(()));
     assert_eq!(rt; table.put(31, last, FRAME_7), Ok(()));
     assert_eq!(rt; table.look(31, last), FRAME_7);
-    assert_eq!(rt; table.look(31, P::PAGES), Entry::Absent);
+    assert_eq!(rt; table.look(31, pages), Entry::Absent);
     assert_eq!(rt; table.look(32, last), Entry::Absent);
-    assert_eq!(rt; table.put(31, P::PAGES, FRAME_7), at(31, P::PAGES));
+    assert_eq!(rt; table.put(31, pages, FRAME_7), at(31, pages));
     assert_eq!(rt; table.put(32, last, FRAME_7), at(32, last));
     assert_eq!(rt; table.put(32, 0, FRAME_7), at(32, 0));
     assert_eq!(rt; table.put(31, last, FRAME_4096), at(31, last));
     assert_eq!(rt; table.look(31, last), FRAME_7);
-    assert_eq!(rt; table.reserve(31, P::PAGES, 1), at(31, P::PAGES));
+    assert_eq!(rt; table.reserve(31, pages, 1), at(31, pages));
     assert_eq!(rt; table.reserve(31, last, 2), at(31, last));
     assert_eq!(rt; table.reserve(32, 0, 1), at(32, 0));
 }
 
 // Ranges that are ruled out, each of which names its own page; then the longest that fits. Nothing is ready before.
-pub(crate) fn ranges_that_never_fit<P: PageTable>(rt: &impl Abort, table: &mut P) {
-    let last = P::PAGES.saturating_sub(1);
+pub(crate) fn ranges_that_never_fit<P: PageTable>(rt: &impl Abort, table: &mut P, pages: u32) {
+    let last = pages.saturating_sub(1);
     assert_eq!(rt; table.reserve(0, 5, 0), at(0, 5));
     assert_eq!(rt; table.reserve(0, 70, 0), at(0, 70));
-    assert_eq!(rt; table.reserve(0, 0, P::PAGES.saturating_add(1)), at(0, 0));
+    assert_eq!(rt; table.reserve(0, 0, pages.saturating_add(1)), at(0, 0));
     assert_eq!(rt; table.reserve(0, last, 2), at(0, last));
-    assert_eq!(rt; table.reserve(0, P::PAGES, 1), at(0, P::PAGES));
+    assert_eq!(rt; table.reserve(0, pages, 1), at(0, pages));
     assert_eq!(rt; table.reserve(0, 1, u32::MAX), at(0, 1));
     assert_eq!(rt; table.reserve(0, u32::MAX, 1), at(0, u32::MAX));
     assert_eq!(rt; table.reserve(0, u32::MAX, u32::MAX), at(0, u32::MAX));
@@ -70,13 +70,13 @@ pub(crate) fn ranges_that_never_fit<P: PageTable>(rt: &impl Abort, table: &mut P
     );
     assert_eq!(rt; table.look(u32::MAX, u32::MAX), Entry::Absent);
     assert_eq!(rt; table.put(0, 70, FRAME_7), at(0, 70));
-    assert_eq!(rt; table.reserve(0, 0, P::PAGES), Ok(()));
+    assert_eq!(rt; table.reserve(0, 0, pages), Ok(()));
 }
 
 // A release ends with the process's pages, and one of nothing changes nothing. Nothing is ready before.
-pub(crate) fn release_past_the_end<P: PageTable>(rt: &impl Abort, table: &mut P) {
-    let last = P::PAGES.saturating_sub(1);
-    let next_to_last = P::PAGES.saturating_sub(2);
+pub(crate) fn release_past_the_end<P: PageTable>(rt: &impl Abort, table: &mut P, pages: u32) {
+    let last = pages.saturating_sub(1);
+    let next_to_last = pages.saturating_sub(2);
     assert_eq!(rt; table.reserve(0, next_to_last, 2), Ok(()));
     assert_eq!(rt; table.reserve(1, 0, 1), Ok(()));
     assert_eq!(rt; table.put(0, next_to_last, FRAME_7), Ok(()));

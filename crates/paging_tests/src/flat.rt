@@ -18,16 +18,15 @@ fn lend(memory: &mut [Word], entry: Entry) -> Result<(), Fault>
 #[test]
 fn last_process_and_page(rt: HostRuntime) -> Result<(), Fail> {
     let mut memory = vec![in rt.alloc(); 0 as Word; 32768]?;
-    // What `both` takes from the table, said outright.
     assert_eq!(rt; FlatTable::PAGES, 1024);
-    both::last_process_and_page(&rt, &mut FlatTable::new(memory.as_mut_slice()));
+    both::last_process_and_page(&rt, &mut FlatTable::new(memory.as_mut_slice()), 1024);
     Ok(())
 }
 
 #[test]
 fn ranges_that_never_fit(rt: HostRuntime) -> Result<(), Fail> {
     let mut memory = vec![in rt.alloc(); 0 as Word; 32768]?;
-    both::ranges_that_never_fit(&rt, &mut FlatTable::new(memory.as_mut_slice()));
+    both::ranges_that_never_fit(&rt, &mut FlatTable::new(memory.as_mut_slice()), 1024);
     Ok(())
 }
 
@@ -59,7 +58,7 @@ fn a_word_that_counts_as_unready_is_an_unready_page(rt: HostRuntime) -> Result<(
 #[test]
 fn release_past_the_end_stays_in_its_window(rt: HostRuntime) -> Result<(), Fail> {
     let mut memory = vec![in rt.alloc(); 0 as Word; 32768]?;
-    both::release_past_the_end(&rt, &mut FlatTable::new(memory.as_mut_slice()));
+    both::release_past_the_end(&rt, &mut FlatTable::new(memory.as_mut_slice()), 1024);
     Ok(())
 }
 

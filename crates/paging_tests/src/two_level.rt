@@ -19,14 +19,13 @@ fn nothing_is_ready_at_first(rt: HostRuntime) {
 
 #[test]
 fn last_process_and_page(rt: HostRuntime) {
-    // What `both` takes from the table, said outright.
     assert_eq!(rt; TwoLevelTable::PAGES, 4096);
-    both::last_process_and_page(&rt, &mut TwoLevelTable::new());
+    both::last_process_and_page(&rt, &mut TwoLevelTable::new(), 4096);
 }
 
 #[test]
 fn a_range_that_is_ruled_out_names_its_own_page(rt: HostRuntime) {
-    both::ranges_that_never_fit(&rt, &mut TwoLevelTable::new());
+    both::ranges_that_never_fit(&rt, &mut TwoLevelTable::new(), 4096);
 }
 
 #[test]
@@ -151,7 +150,7 @@ fn release_of_a_part_over_blocks(rt: HostRuntime) {
 
 #[test]
 fn release_past_the_end(rt: HostRuntime) {
-    both::release_past_the_end(&rt, &mut TwoLevelTable::new());
+    both::release_past_the_end(&rt, &mut TwoLevelTable::new(), 4096);
 }
 
 #[test]

@@ -1,23 +1,13 @@
-use Rattle.std.proofs.Common.{Some, ◌∙◌, arith}
-use Rattle.std.proofs.lemmas.List.{length-set}
-use Rattle.paging.proofs.Directories.{attached_all, attached_new, attached_once}
+-- The leaf that was listed last is held, and not listed any more.
+use Rattle.std.proofs.Common.{Some, arith, rules}
+use Rattle.paging.proofs.Directories.{attached_new, attached_once, held_set}
 use Rattle.paging.proofs.directory.Directory.attach.Goals as goal
 
-pub invariant_of-self : goal.invariant_of-self
-invariant_of-self c =
-    let d = c.args.self.now in
-    let b = c.args.block in
-    let l = c.unwrap-leaf.result in
-    let left = c.pop.new.self.items in
-    let last = rw c.unwrap-leaf.ensures at c.pop.ensures.items in
-    record {
-      sized = length-set d.slots b.number (Some l) ∙ d.sized;
-      once = attached_once d.slots d.free.items d.once d.all b.number l left (omega arith) c.requires.lacks last;
-      all = attached_all d.slots d.free.items d.once d.all b.number l left (omega arith) c.requires.lacks last;
-    }
+pub invariant_of-self-clause-once : goal.invariant_of-self-clause-once
+invariant_of-self-clause-once c = λ m low. attached_once _ _ _ _ _ c.args.self.now.sized c.args.block.inside _ m c.requires.lacks c.pop.ensures.items c.unwrap-leaf.ensures (c.args.self.now.once m low)
+
+pub invariant_of-self-clause-all : goal.invariant_of-self-clause-all
+invariant_of-self-clause-all c = grind (arith, c.args.self.now.all, held_set c.args.self.now.slots c.args.block.number (omega arith) (Some c.unwrap-leaf.result))
 
 pub returns-clause-was : goal.returns-clause-was
-returns-clause-was c =
-    let d = c.args.self.now in
-    attached_new d.slots d.free.items d.once d.all c.args.block.number c.unwrap-leaf.result c.pop.new.self.items (omega arith) c.requires.lacks
-    (rw c.unwrap-leaf.ensures at c.pop.ensures.items) c.unwrap-leaf.type_inv
+returns-clause-was c = search (rules, attached_new, c.args.self.now.once)

@@ -1,5 +1,6 @@
+-- As many leaves are listed as no block holds.
 use Rattle.std.proofs.Common.{arith}
-use Rattle.paging.proofs.Directories.{held_count}
+use Rattle.paging.proofs.Spans.{held_count}
 use Rattle.paging.proofs.directory.Directory.free_leaves.Goals as goal
 
 pub returns : goal.returns

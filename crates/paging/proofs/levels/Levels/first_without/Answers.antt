@@ -1,26 +1,16 @@
-use Rattle.std.proofs.Common.{refl, arith}
-use Rattle.paging.specs.Directory.{holds}
-use Rattle.paging.specs.TwoLevel.{slots_of}
+-- The leaves that are left are the free ones without those that the blocks so far lack.
+use Rattle.std.proofs.Common.{rules, arith}
 use Rattle.paging.proofs.Spans.{first_without_found, first_without_more, first_without_none, lacking_start}
 use Rattle.paging.proofs.levels.Levels.first_without.Goals as goal
 
 pub loop-number-init : goal.loop-number-init
-loop-number-init c =
-    let b = c.first_block-number.result in
-    omega (arith, c.free_leaves-left.ensures, lacking_start (holds (slots_of c.args.self.now)) b b refl)
+loop-number-init c = search (rules, lacking_start)
 
 pub returns-then-lacked-left : goal.returns-then-lacked-left
-returns-then-lacked-left c =
-    first_without_found (holds (slots_of c.args.self.now)) c.args.span.start c.args.span.end c.first_block-number.result c.loop-number.number
-    c.loop-number.left c.first_block-number.ensures (omega arith) c.loop-number.invariant c.lacking-lacked.result (omega arith)
-    c.lacking-lacked.ensures (omega arith)
+returns-then-lacked-left c = first_without_found _ _ _ _ _ _ c.first_block-number.ensures c.loop-number.invariant _ c.lacking-lacked.ensures (omega arith) (omega arith) (omega arith)
 
 pub loop-number-preserved : goal.loop-number-preserved
-loop-number-preserved c =
-    first_without_more (holds (slots_of c.args.self.now)) c.args.span.start c.args.span.end c.first_block-number.result c.loop-number.number
-    c.loop-number.left c.first_block-number.ensures (omega arith) c.loop-number.invariant c.lacking-lacked.result c.lacking-lacked.ensures (omega arith)
+loop-number-preserved c = search (rules, first_without_more)
 
 pub returns : goal.returns
-returns c =
-    first_without_none (holds (slots_of c.args.self.now)) c.args.span.start c.args.span.end c.first_block-number.result c.loop-number.number
-    c.loop-number.left c.first_block-number.ensures (omega arith) c.loop-number.invariant (omega arith)
+returns c = first_without_none _ _ _ _ _ _ c.first_block-number.ensures c.loop-number.invariant (omega arith) (omega arith)

@@ -1,3 +1,4 @@
+-- The leaves that are left and those that the blocks so far lack are together what was free.
 use Rattle.std.proofs.Common.{◌≡◌, ◌+◌, ◌-◌}
 use Rattle.paging.specs.Directory.{holds}
 use Rattle.paging.specs.Lacking.{free_leaves, lacking}

@@ -1,12 +1,7 @@
-use Rattle.std.proofs.Common.{replicate}
-use Rattle.std.proofs.lemmas.List.{length-replicate}
-use Rattle.paging.specs.Blocks.{leaf_count}
-use Rattle.paging.specs.Leaves.{words_in}
+-- No leaf is held, so none lacks a ready page.
+use Rattle.std.proofs.Common.{rules}
 use Rattle.paging.proofs.TwoLevelMeaning.{none_used}
 use Rattle.paging.proofs.levels.Levels.new.Goals as goal
 
-pub invariant_of-result : goal.invariant_of-result
-invariant_of-result c = record {
-  sized = length-replicate leaf_count c.empty.result;
-  used = none_used c.new.result.slots (words_in (replicate leaf_count c.empty.result)) c.new.ensures;
-}
+pub invariant_of-result-clause-used : goal.invariant_of-result-clause-used
+invariant_of-result-clause-used c = search (rules, none_used)

@@ -1,8 +1,7 @@
-use Rattle.paging.specs.States.{made_unready}
+-- The pages of one block more are unready.
+use Rattle.std.proofs.Common.{rules}
 use Rattle.paging.proofs.Spans.{changes_more}
 use Rattle.paging.proofs.levels.Levels.release.Goals as goal
 
 pub loop-number-preserved : goal.loop-number-preserved
-loop-number-preserved c =
-    changes_more made_unready c.loop-number.number c.args.span.start c.args.span.end c.args.self.now c.loop-number.self c.release_in.new.self
-    c.loop-number.invariant c.release_in.ensures
+loop-number-preserved c = search (rules, changes_more)

@@ -1,3 +1,4 @@
+-- The pages of the blocks so far are unready.
 use Rattle.paging.specs.States.{made_unready}
 use Rattle.paging.specs.TwoLevel.{Changed}
 use Rattle.paging.proofs.Spans.{below_block}

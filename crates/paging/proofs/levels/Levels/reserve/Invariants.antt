@@ -1,3 +1,4 @@
+-- The pages of the blocks so far are ready, and those blocks have the leaves that they lacked.
 use Rattle.std.proofs.Common.{◌≡◌, ℕ, ◌+◌, ◌-◌, ◌≤◌}
 use Rattle.paging.specs.Blocks.{first_block}
 use Rattle.paging.specs.Directory.{held, holds, leaf_of}
