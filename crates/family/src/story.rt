@@ -122,6 +122,7 @@ impl<'a, P: PageTable> Story<'a, P> {
         self.look(Person::Child, 11)
     }
 
+    // The steps pass the numbers on as the table takes them.
     fn reserve(&mut self, who: Person, first: u32, count: u32) -> io::Result<()>
         ensures { (r : Result (Unit {0}) Fault) × Reserves (P.PageTable.meaning self.old.table) (number who) first count r (P.PageTable.meaning self.new.table) }
     {

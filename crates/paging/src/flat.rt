@@ -88,7 +88,7 @@ fn window_start(words: &[Word], process: u32) -> Option<usize>
     Some(process as usize * WINDOW)
 }
 
-// The memory goes whole to each of the functions below, which hands one process's window on.
+// The memory goes whole to each of the functions below, which hands one process's window on. Process and page stay the two numbers that came in.
 
 // Without a window the page is unready.
 fn look_in(words: &[Word], process: u32, page: u32) -> PageState

@@ -25,7 +25,7 @@ pub(crate) struct Levels {
     ghost used: { Used directory.slots (words_in leaves) },
 }
 
-// A method that lends a leaf first takes `self` apart: the checker cannot lend an element of one field of a struct with ghost fields.
+// A method that lends a leaf for writing first takes `self` apart: the checker cannot lend an element of a field for writing while a struct with ghost fields is whole.
 impl Levels {
     // Not above the struct, whose ghost fields these definitions are about.
     ghost use Rattle.paging.specs.TwoLevel.{Changed, place_state, slots_of, words_of};

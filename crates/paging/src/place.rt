@@ -25,7 +25,7 @@ pub(crate) struct Place {
 }
 
 impl Place {
-    // The place of a page; none where the table does not know the page.
+    // The place of a page, by the two numbers as they came in; none where the table does not know the page.
     pub(crate) fn of(process: u32, page: u32) -> Option<Self>
         ensures { option_map (λ place. place.index) result ≡ known_place process page }
     {

@@ -19,15 +19,13 @@ fn lend(memory: &mut [Word], entry: Entry) -> Result<(), Fault>
 fn last_process_and_page(rt: HostRuntime) -> Result<(), Fail> {
     let mut memory = vec![in rt.alloc(); 0 as Word; 32768]?;
     assert_eq!(rt; FlatTable::PAGES, 1024);
-    both::last_process_and_page(&rt, &mut FlatTable::new(memory.as_mut_slice()), 1024);
-    Ok(())
+    both::last_process_and_page(&mut FlatTable::new(memory.as_mut_slice()), 1024)
 }
 
 #[test]
 fn ranges_that_never_fit(rt: HostRuntime) -> Result<(), Fail> {
     let mut memory = vec![in rt.alloc(); 0 as Word; 32768]?;
-    both::ranges_that_never_fit(&rt, &mut FlatTable::new(memory.as_mut_slice()), 1024);
-    Ok(())
+    both::ranges_that_never_fit(&mut FlatTable::new(memory.as_mut_slice()), 1024)
 }
 
 #[test]
@@ -58,8 +56,7 @@ fn a_word_that_counts_as_unready_is_an_unready_page(rt: HostRuntime) -> Result<(
 #[test]
 fn release_past_the_end_stays_in_its_window(rt: HostRuntime) -> Result<(), Fail> {
     let mut memory = vec![in rt.alloc(); 0 as Word; 32768]?;
-    both::release_past_the_end(&rt, &mut FlatTable::new(memory.as_mut_slice()), 1024);
-    Ok(())
+    both::release_past_the_end(&mut FlatTable::new(memory.as_mut_slice()), 1024)
 }
 
 #[test]
@@ -113,7 +110,7 @@ fn reserve_over_words_of_every_kind(rt: HostRuntime) -> Result<(), Fail> {
 fn putting_absent_leaves_the_page_ready(rt: HostRuntime) -> Result<(), Fail> {
     let mut memory = vec![in rt.alloc(); 0 as Word; 32768]?;
     assert_eq!(rt; lend(memory.as_mut_slice(), FRAME_7), at(1, 5));
-    both::putting_absent(&rt, &mut FlatTable::new(memory.as_mut_slice()), 1, 5);
+    both::putting_absent(&mut FlatTable::new(memory.as_mut_slice()), 1, 5)?;
     assert_eq!(rt; lend(memory.as_mut_slice(), FRAME_7), Ok(()));
     assert_eq!(rt; memory.get(1029).copied(), Some(0xa007));
     Ok(())
