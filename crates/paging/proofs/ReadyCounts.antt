@@ -1,15 +1,14 @@
 -- How many pages of a window are ready, as its words are rewritten.
-use Rattle.std.proofs.Common.{◌≡◌, ℕ, ◌+◌, ◌-◌, cond, List, [], ◌∷◌, map, replicate, length, take, drop, sum, Result, MatchResult, Ok, Err, sym, refl, ap, ◌∙◌, arith}
+use Rattle.std.proofs.Common.{◌≡◌, ℕ, ◌+◌, cond, List, [], ◌∷◌, map, length, take, drop, sum, Result, MatchResult, Ok, Err, sym, refl, ap, ◌∙◌, arith}
 use borrow.Rule.Slice.PartMut.{put_mid}
 use Rattle.std.proofs.lemmas.List.{get_or-map, length-map, same_lists}
-use Rattle.std.proofs.lemmas.List.Sums.{count_by-le-length, sum-map, sum_by-append, sum_by-cons, sum_by-take-drop}
-use Rattle.std.proofs.lemmas.List.Folds.{sum_by-replicate}
+use Rattle.std.proofs.lemmas.List.Sums.{sum-map, sum_by-append, sum_by-cons, sum_by-take-drop}
 use Rattle.std.proofs.lemmas.Bool.Decides.{nat_tests}
 use Rattle.paging.specs.declared.page.Entry.{Entry}
 use Rattle.paging.specs.declared.window.PutError.{PutError}
 use Rattle.paging.specs.States.{is_ready}
-use Rattle.paging.specs.Window.{put_answer, readied, ready_in, replaced, Rewrites, window_state}
-use Rattle.paging.specs.Word.{entry_word, state_of, unready_word}
+use Rattle.paging.specs.Window.{put_answer, readied, ready_in, replaced, Rewrites, unreadied, window_state}
+use Rattle.paging.specs.Word.{entry_word, state_of}
 
 -- one for the word of a ready page
 abbrev one : ℕ → ℕ
@@ -20,18 +19,24 @@ all_ready : (ws : List ℕ) → ready_in (map readied ws) ≡ length ws
 all_ready [] = refl
 all_ready (w ∷ ws) = grind (arith, sum_by-cons one (readied w) (map readied ws), all_ready ws)
 
-module _ (s k n : ℕ) (ws vs : List ℕ) (was : n ≡ ready_in (take k (drop s ws))) where
-  -- a part that is given back takes its ready pages with it
-  counted : ready_in (put_mid s k ws vs) + n ≡ ready_in ws + ready_in vs
+-- none is ready that release made unready
+none_ready : (ws : List ℕ) → ready_in (map unreadied ws) ≡ 0
+none_ready [] = refl
+none_ready (w ∷ ws) = grind (arith, sum_by-cons one (unreadied w) (map unreadied ws), none_ready ws)
+
+-- part of a window is given back
+module _ (s k : ℕ) (ws vs : List ℕ) where
+  -- its ready pages are counted in place of those that it had
+  counted : ready_in (put_mid s k ws vs) + ready_in (take k (drop s ws)) ≡ ready_in ws + ready_in vs
   counted = omega (arith, sum_by-append one, sum_by-take-drop one ws s, sum_by-take-drop one (drop s ws) k)
 
-  pub part_gained : vs ≡ map readied (take k (drop s ws)) → ready_in (put_mid s k ws vs) ≡ ready_in ws + (length (take k (drop s ws)) - n)
-  part_gained is =
-      let part : List ℕ = take k (drop s ws) in
-      omega (arith, counted, all_ready part, ap ready_in is, count_by-le-length (λ (w : ℕ). is_ready (state_of w)) part)
+  -- all of them are
+  pub part_gained : vs ≡ map readied (take k (drop s ws)) → ready_in (put_mid s k ws vs) + ready_in (take k (drop s ws)) ≡ ready_in ws + length (take k (drop s ws))
+  part_gained is = omega (arith, counted, all_ready (take k (drop s ws)), ap ready_in is)
 
-  pub part_lost : vs ≡ replicate (length (take k (drop s ws))) unready_word → ready_in (put_mid s k ws vs) + n ≡ ready_in ws
-  part_lost is = omega (arith, counted, ap ready_in is, sum_by-replicate one (length (take k (drop s ws))) unready_word)
+  -- none of them is
+  pub part_lost : vs ≡ map unreadied (take k (drop s ws)) → ready_in (put_mid s k ws vs) + ready_in (take k (drop s ws)) ≡ ready_in ws
+  part_lost is = omega (arith, counted, none_ready (take k (drop s ws)), ap ready_in is)
 
 -- an entry that replaces another leaves the count
 pub put_alike : (e : Entry) (q : ℕ) (ws vs : List ℕ) (r : Result (Unit {0}) PutError) → r ≡ put_answer (window_state ws q) e

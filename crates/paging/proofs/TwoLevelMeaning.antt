@@ -40,14 +40,14 @@ pages_change f test t u changed r q here inside outside = grind (arith, changed 
 
 -- a change of the states of the pages is the effect on the meaning
 module _ (s t : ℕ → ℕ → PageState) (f g : ℕ → ℕ → ℕ → Option Fault) (p a : ℕ) where
-  lift_reserve : (n : ℕ) → f p a n ≡ None → ((r q : ℕ) → t r q ≡ cond (in_range p a n r q) (made_ready (s r q)) (s r q))
+  pub lift_reserve : (n : ℕ) → f p a n ≡ None → ((r q : ℕ) → t r q ≡ cond (in_range p a n r q) (made_ready (s r q)) (s r q))
       → Reserved (by_states s f) p a n (by_states t g)
   lift_reserve n fits h = search rules
 
-  lift_release : (n : ℕ) → ((r q : ℕ) → t r q ≡ cond (in_range p a n r q) Unready (s r q)) → Releases (by_states s f) p a n (by_states t g)
+  pub lift_release : (n : ℕ) → ((r q : ℕ) → t r q ≡ cond (in_range p a n r q) Unready (s r q)) → Releases (by_states s f) p a n (by_states t g)
   lift_release n h = search rules
 
-  lift_put : (e : Entry) → (is_ready (s p a) && storable e) ≡ true → g ≡ f → ((r q : ℕ) → t r q ≡ cond (eqb r p && eqb q a) (Ready e) (s r q))
+  pub lift_put : (e : Entry) → (is_ready (s p a) && storable e) ≡ true → g ≡ f → ((r q : ℕ) → t r q ≡ cond (eqb r p && eqb q a) (Ready e) (s r q))
       → Replaced (by_states s f) p a e (by_states t g)
   lift_put e can same h = search rules
 

@@ -1,14 +1,13 @@
 -- Words of a window: what they mean, and that a range of them is rewritten where the part that it names is lent.
-use Rattle.std.proofs.Common.{◌≡◌, ℕ, ◌+◌, ◌-◌, ◌<◌, Bool, true, cond, List, map, length, get_or, take, drop, min, replicate, refl, ap, ◌∙◌, arith}
+use Rattle.std.proofs.Common.{◌≡◌, ℕ, ◌+◌, ◌-◌, ◌<◌, Bool, true, cond, List, map, length, get_or, take, drop, min, ap, ◌∙◌, arith}
 use borrow.Rule.Slice.PartMut.{mid_len, put_mid, same_len_mid}
 use Rattle.std.proofs.lemmas.List.{places, get_or-map, length-map}
 use Rattle.std.proofs.lemmas.Bool.Decides.{nat_tests}
-use Rattle.std.proofs.lemmas.Simd.{splat_is_map}
 use Rattle.paging.specs.declared.page.Entry.{Entry}
 use Rattle.paging.specs.declared.page.PageState.TheVariants.{Ready}
 use Rattle.paging.specs.States.{made_ready}
-use Rattle.paging.specs.Window.{readied, Rewrites, unreadied}
-use Rattle.paging.specs.Word.{entry_word, state_of, storable, unready_word}
+use Rattle.paging.specs.Window.{readied, Rewrites}
+use Rattle.paging.specs.Word.{entry_word, state_of, storable}
 
 -- the word that put stores means its entry
 pub stored : (e : Entry) → storable e ≡ true → state_of (entry_word e) ≡ Ready e
@@ -35,8 +34,3 @@ part_rewritten f a n s e ws vs starts ends is =
           let became : i - s < e - s → get_or vs (i - s) 0 ≡ f (get_or part (i - s) 0) = λ low. rw is (get_or-map f part (i - s) 0 0 (omega arith)) in
           grind (arith, nat_tests, places, became);
     }
-
--- all of them were cleared
-pub part_cleared : (a n s e : ℕ) (ws vs : List ℕ) → s ≡ min a (length ws) → e ≡ min (a + n) (length ws)
-    → vs ≡ replicate (length (take (e - s) (drop s ws))) unready_word → Rewrites unreadied a n ws (put_mid s (e - s) ws vs)
-part_cleared a n s e ws vs starts ends is = part_rewritten unreadied a n s e ws vs starts ends (is ∙ splat_is_map _ _ 0 refl)

@@ -106,7 +106,9 @@ fn put_in(words: &mut [Word], process: u32, page: u32, entry: Entry) -> Result<(
     ensures wrote { WroteIf result (replaced entry) process page 1 words.old words.new }
 {
     let fault = Fault { process, page };
-    let start = window_start(words, process).ok_or(fault)?;
+    let Some(start) = window_start(words, process) else {
+        return Err(fault);
+    };
     window::put(&mut words[start..start + WINDOW], page, entry).map_err(|_| fault)
 }
 
@@ -115,10 +117,13 @@ fn reserve_in(words: &mut [Word], range: PageRange) -> Result<(), Fault>
     ensures reserves { Reserves (flat words.old) range.process range.pages.first range.pages.count result (flat words.new) }
     ensures wrote { WroteIf result readied range.process range.pages.first range.pages.count words.old words.new }
 {
+    let fault = range.fault();
     if range.is_ruled_out(<FlatTable<'_> as PageTable>::PAGES) {
-        return Err(range.fault());
+        return Err(fault);
     }
-    let start = window_start(words, range.process).ok_or(range.fault())?;
+    let Some(start) = window_start(words, range.process) else {
+        return Err(fault);
+    };
     window::reserve(&mut words[start..start + WINDOW], range.pages);
     Ok(())
 }

@@ -44,6 +44,8 @@ impl Leaf {
     }
 
     // Makes the pages of a range ready, as far as the leaf goes, and keeps their entries.
+    // Not inlined, nor is release: in the loop over blocks, what a loop over words needs is worked out before it is known that the block holds a leaf.
+    #[inline(never)]
     pub(crate) fn reserve(&mut self, pages: Pages)
         ensures { Rewrites readied pages.first pages.count self.old.words self.new.words }
     {
@@ -51,6 +53,7 @@ impl Leaf {
     }
 
     // Makes the pages of a range unready and absent, as far as the leaf goes. Answers whether none is ready any more.
+    #[inline(never)]
     pub(crate) fn release(&mut self, pages: Pages) -> bool
         ensures words { Rewrites unreadied pages.first pages.count self.old.words self.new.words }
         ensures empty { result ≡ (ready_in self.new.words == 0) }

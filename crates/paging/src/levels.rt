@@ -75,9 +75,9 @@ impl Levels {
         match directory.leaf_of(block) {
             Some(leaf) => leaves[usize::from(leaf)].reserve(pages),
             None => {
-                let mut fresh = Leaf::empty();
-                fresh.reserve(pages);
-                leaves[usize::from(directory.attach(block))] = fresh;
+                let leaf = &mut leaves[usize::from(directory.attach(block))];
+                *leaf = Leaf::empty();
+                leaf.reserve(pages);
             }
         }
     }

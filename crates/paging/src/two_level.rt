@@ -66,7 +66,9 @@ impl PageTable for TwoLevelTable {
 
     fn put(&mut self, process: u32, page: u32, entry: Entry) -> Result<(), Fault> {
         let fault = Fault { process, page };
-        let place = Place::of(process, page).ok_or(fault)?;
-        self.levels.put(place, entry).map_err(|_| fault)
+        match Place::of(process, page) {
+            Some(place) => self.levels.put(place, entry).map_err(|_| fault),
+            None => Err(fault),
+        }
     }
 }

@@ -57,45 +57,49 @@ fn ready(word: Word) -> Word
     }
 }
 
-// How many of the words are of ready pages.
-fn count_ready(words: &[Word]) -> usize
-    ensures { result ≡ ready_in words.now }
+// Makes the page of each word ready. Answers how many were not.
+fn make_ready(words: &mut [Word]) -> usize
+    ensures words { words.new ≡ map readied words.old }
+    ensures gained { result + ready_in words.old ≡ length words.old }
 {
-    words
-        .iter()
-        .filter(|word| PageState::from(**word).is_ready())
-        .count()
-}
-
-// Makes the page of each word ready.
-fn make_ready(words: &mut [Word])
-    ensures { words.new ≡ map readied words.old }
-{
+    let mut gained = 0;
     for word in words.iter_mut() {
+        // A word that changes is of a page that was not ready.
+        gained += usize::from(ready(*word) != *word);
         *word = ready(*word);
     }
+    gained
+}
+
+// Makes the page of each word unready. Answers how many were ready.
+fn make_unready(words: &mut [Word]) -> usize
+    ensures words { words.new ≡ map unreadied words.old }
+    ensures lost { result ≡ ready_in words.old }
+{
+    let mut lost = 0;
+    for word in words.iter_mut() {
+        lost += usize::from(PageState::from(*word).is_ready());
+        *word = UNREADY;
+    }
+    lost
 }
 
 // Makes the pages of a range ready, as far as the window goes, and keeps their entries. Answers how many were not.
+#[tactic(auto, using(crate::proofs::Windows::part_rewritten, crate::proofs::ReadyCounts::part_gained))]
 pub(crate) fn reserve(window: &mut [Word], pages: Pages) -> usize
     ensures words { Rewrites readied pages.first pages.count window.old window.new }
     ensures gained { ready_in window.new ≡ ready_in window.old + result }
 {
-    let part = pages.within(window.len());
-    let reserved = &mut window[part];
-    let gained = reserved.len() - count_ready(reserved);
-    make_ready(reserved);
-    gained
+    let reserved = pages.within(window.len());
+    make_ready(&mut window[reserved])
 }
 
 // Makes the pages of a range unready and absent, as far as the window goes. Answers how many were ready.
+#[tactic(auto, using(crate::proofs::Windows::part_rewritten, crate::proofs::ReadyCounts::part_lost))]
 pub(crate) fn release(window: &mut [Word], pages: Pages) -> usize
     ensures words { Rewrites unreadied pages.first pages.count window.old window.new }
     ensures lost { ready_in window.new + result ≡ ready_in window.old }
 {
-    let part = pages.within(window.len());
-    let released = &mut window[part];
-    let lost = count_ready(released);
-    released.fill(UNREADY);
-    lost
+    let released = pages.within(window.len());
+    make_unready(&mut window[released])
 }

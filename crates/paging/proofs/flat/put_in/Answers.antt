@@ -6,7 +6,7 @@ use Rattle.paging.proofs.flat.put_in.Goals as goal
 
 pub returns : goal.returns
 returns c =
-    let begins : Some c.in_ok-start.start ≡ window_start c.args.words.now c.args.process = sym c.in_ok-start.ensures.ok_part ∙ c.window_start.ensures in
+    let begins : Some c.in-Some.start ≡ window_start c.args.words.now c.args.process = sym c.in-Some.is ∙ c.window_start.ensures in
     let both = flat_put c.args.entry c.args.process c.args.page _ _ _ _ begins (omega arith) (λ d f told. search rules) c.put.result c.map_err.result
     c.put.ensures.answer c.put.ensures.after c.map_err.ensures.cases in
     record { puts = both.0; wrote = both.1 }

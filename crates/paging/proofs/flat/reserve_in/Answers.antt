@@ -8,6 +8,6 @@ use Rattle.paging.proofs.flat.reserve_in.Goals as goal
 
 pub returns : goal.returns
 returns c =
-    let begins : Some c.in_ok-start.start ≡ window_start c.args.words.now c.args.range.process = sym c.in_ok-start.ensures.ok_part ∙ c.window_start.ensures in
+    let begins : Some c.in-Some.start ≡ window_start c.args.words.now c.args.range.process = sym c.in-Some.is ∙ c.window_start.ensures in
     let wrote = window_wrote _ _ _ _ begins (omega arith) readied _ _ _ c.reserve.ensures.words in
     record { reserves = flat_reserved _ _ _ _ _ (search (rules, fits_window)) wrote; wrote = wrote }

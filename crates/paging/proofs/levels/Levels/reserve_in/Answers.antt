@@ -26,4 +26,4 @@ pub returns-in-None-clause-states : goal.returns-in-None-clause-states
 returns-in-None-clause-states c =
     taken_changes c.args.self.now c.from-in-None.result (omega arith) c.reserve-in-None.new.self c.args.block.number c.attach.new.self.slots (cc)
     c.args.block.inside (rw (← c.from-in-None.ensures) at c.attach.ensures.was) (rw (← c.from-in-None.ensures) at c.attach.ensures.now)
-    readied made_ready readied_means _ _ _ _ c.pages_in-pages.ensures _ c.empty-fresh.ensures c.reserve-in-None.ensures
+    readied made_ready readied_means _ _ _ _ c.pages_in-pages.ensures _ c.empty.ensures c.reserve-in-None.ensures
