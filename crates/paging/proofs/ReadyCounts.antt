@@ -1,14 +1,15 @@
 -- How many pages of a window are ready, as its words are rewritten.
-use Rattle.std.proofs.Common.{◌≡◌, ℕ, ◌+◌, cond, List, [], ◌∷◌, map, length, take, drop, sum, Result, MatchResult, Ok, Err, sym, refl, ap, ◌∙◌, arith}
+use Rattle.std.proofs.Common.{◌≡◌, ℕ, ◌+◌, cond, List, [], ◌∷◌, map, replicate, length, take, drop, sum, Result, MatchResult, Ok, Err, sym, refl, ap, ◌∙◌, arith}
 use borrow.Rule.Slice.PartMut.{put_mid}
-use Rattle.std.proofs.lemmas.List.{get_or-map, length-map, same_lists}
+use Rattle.std.proofs.lemmas.List.{get_or-map, length-map, length-replicate, same_lists}
 use Rattle.std.proofs.lemmas.List.Sums.{sum-map, sum_by-append, sum_by-cons, sum_by-take-drop}
+use Rattle.std.proofs.lemmas.List.Folds.{sum_by-replicate}
 use Rattle.std.proofs.lemmas.Bool.Decides.{nat_tests}
 use Rattle.paging.specs.declared.page.Entry.{Entry}
 use Rattle.paging.specs.declared.window.PutError.{PutError}
 use Rattle.paging.specs.States.{is_ready}
 use Rattle.paging.specs.Window.{put_answer, readied, ready_in, replaced, Rewrites, unreadied, window_state}
-use Rattle.paging.specs.Word.{entry_word, state_of}
+use Rattle.paging.specs.Word.{absent_word, entry_word, state_of, unready_word}
 
 -- one for the word of a ready page
 abbrev one : ℕ → ℕ
@@ -37,6 +38,24 @@ module _ (s k : ℕ) (ws vs : List ℕ) where
   -- none of them is
   pub part_lost : vs ≡ map unreadied (take k (drop s ws)) → ready_in (put_mid s k ws vs) + ready_in (take k (drop s ws)) ≡ ready_in ws
   part_lost is = omega (arith, counted, none_ready (take k (drop s ws)), ap ready_in is)
+
+-- all pages of a part became ready and absent in a window of which none was ready
+pub all_filled : (s k m : ℕ) (ws vs : List ℕ) → ws ≡ replicate m unready_word → vs ≡ replicate (length (take k (drop s ws))) absent_word
+    → ready_in (put_mid s k ws vs) ≡ length vs
+all_filled s k m ws vs empty is =
+    let n : ℕ = length (take k (drop s ws)) in
+    omega (
+      arith,
+      counted s k ws vs,
+      sum_by-take-drop one ws s,
+      sum_by-take-drop one (drop s ws) k,
+      ap ready_in empty,
+      ap ready_in is,
+      sum_by-replicate one m unready_word,
+      sum_by-replicate one n absent_word,
+      ap length is,
+      length-replicate {A = ℕ} n absent_word,
+    )
 
 -- an entry that replaces another leaves the count
 pub put_alike : (e : Entry) (q : ℕ) (ws vs : List ℕ) (r : Result (Unit {0}) PutError) → r ≡ put_answer (window_state ws q) e

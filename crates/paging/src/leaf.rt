@@ -43,8 +43,16 @@ impl Leaf {
         window::put(&mut self.words, page, entry)
     }
 
+    // Makes the leaf anew: the pages of a range are ready and absent, as far as the leaf goes, and no other is ready.
+    // Not inlined, nor are reserve and release: else what the loop over words needs is worked out for each block, before it is known whether the block holds a leaf.
+    #[inline(never)]
+    pub(crate) fn renew(&mut self, pages: Pages)
+        ensures { Rewrites readied pages.first pages.count (replicate block_pages 0) self.new.words }
+    {
+        self.ready = window::renew(&mut self.words, pages);
+    }
+
     // Makes the pages of a range ready, as far as the leaf goes, and keeps their entries.
-    // Not inlined, nor is release: in the loop over blocks, what a loop over words needs is worked out before it is known that the block holds a leaf.
     #[inline(never)]
     pub(crate) fn reserve(&mut self, pages: Pages)
         ensures { Rewrites readied pages.first pages.count self.old.words self.new.words }

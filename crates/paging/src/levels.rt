@@ -74,11 +74,7 @@ impl Levels {
         let Levels { directory, leaves } = self;
         match directory.leaf_of(block) {
             Some(leaf) => leaves[usize::from(leaf)].reserve(pages),
-            None => {
-                let leaf = &mut leaves[usize::from(directory.attach(block))];
-                *leaf = Leaf::empty();
-                leaf.reserve(pages);
-            }
+            None => leaves[usize::from(directory.attach(block))].renew(pages),
         }
     }
 

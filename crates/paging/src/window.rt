@@ -1,5 +1,5 @@
 // A window: the stored words of some pages, one after the other. A page past its end counts as unready.
-ghost use Rattle.std.specs.Prelude.{◌≡◌, ◌+◌, ◌<◌, true, length, map, MatchResult};
+ghost use Rattle.std.specs.Prelude.{◌≡◌, ◌+◌, ◌<◌, true, length, map, replicate, MatchResult};
 ghost use Rattle.paging.specs.declared.window.PutError.TheVariants.{FrameTooLarge as too_large};
 ghost use Rattle.paging.specs.States.{is_ready};
 ghost use Rattle.paging.specs.Window.{put_answer, readied, ready_in, replaced, Rewrites, unreadied, window_state};
@@ -82,6 +82,19 @@ fn make_unready(words: &mut [Word]) -> usize
         *word = UNREADY;
     }
     lost
+}
+
+// Makes the window anew: the pages of a range are ready and absent, as far as it goes, and no other is ready. Answers how many are.
+#[tactic(auto, using(crate::proofs::Windows::part_filled, crate::proofs::ReadyCounts::all_filled))]
+pub(crate) fn renew(window: &mut [Word], pages: Pages) -> usize
+    ensures words { Rewrites readied pages.first pages.count (replicate (length window.old) 0) window.new }
+    ensures ready { result ≡ ready_in window.new }
+{
+    let renewed = pages.within(window.len());
+    window.fill(UNREADY);
+    let ready = &mut window[renewed];
+    ready.fill(READY_ABSENT);
+    ready.len()
 }
 
 // Makes the pages of a range ready, as far as the window goes, and keeps their entries. Answers how many were not.

@@ -1,5 +1,5 @@
--- The block's leaf is rewritten, or an empty one that it gets: a page of it is ready in the end.
-use Rattle.std.proofs.Common.{arith}
+-- The block's leaf is rewritten, or made anew where it gets one: a page of it is ready in the end.
+use Rattle.std.proofs.Common.{refl, arith}
 use Rattle.paging.specs.States.{made_ready}
 use Rattle.paging.specs.Window.{readied}
 use Rattle.paging.proofs.LevelSteps.{lent_changes, lent_used, some_ready, taken_changes, taken_used}
@@ -18,12 +18,12 @@ returns-in-Some-clause-states c =
 
 pub invariant_of-self-in-None-clause-used : goal.invariant_of-self-in-None-clause-used
 invariant_of-self-in-None-clause-used c =
-    taken_used c.args.self.now c.from-in-None.result (omega arith) c.reserve-in-None.new.self c.args.block.number c.attach.new.self.slots (cc)
+    taken_used c.args.self.now c.from-in-None.result (omega arith) c.renew.new.self c.args.block.number c.attach.new.self.slots (cc)
     c.args.block.inside (rw (← c.from-in-None.ensures) at c.attach.ensures.was) (rw (← c.from-in-None.ensures) at c.attach.ensures.now)
-    (some_ready _ _ _ _ _ c.requires.some c.pages_in-pages.ensures _ _ c.reserve-in-None.new.self.sized c.reserve-in-None.ensures)
+    (some_ready _ _ _ _ _ c.requires.some c.pages_in-pages.ensures _ _ c.renew.new.self.sized c.renew.ensures)
 
 pub returns-in-None-clause-states : goal.returns-in-None-clause-states
 returns-in-None-clause-states c =
-    taken_changes c.args.self.now c.from-in-None.result (omega arith) c.reserve-in-None.new.self c.args.block.number c.attach.new.self.slots (cc)
+    taken_changes c.args.self.now c.from-in-None.result (omega arith) c.renew.new.self c.args.block.number c.attach.new.self.slots (cc)
     c.args.block.inside (rw (← c.from-in-None.ensures) at c.attach.ensures.was) (rw (← c.from-in-None.ensures) at c.attach.ensures.now)
-    readied made_ready readied_means _ _ _ _ c.pages_in-pages.ensures _ c.empty.ensures c.reserve-in-None.ensures
+    readied made_ready readied_means _ _ _ _ c.pages_in-pages.ensures _ refl c.renew.ensures
